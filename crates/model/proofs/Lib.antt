@@ -1,0 +1,14 @@
+pub mod Lists
+pub mod Gives
+pub mod Words
+pub mod Terms
+pub mod LinearForm
+pub mod Rules
+pub mod Derivations
+pub mod Runs
+pub mod Formed
+pub mod Reading
+pub mod Paths
+pub mod Walk
+pub mod Blocks
+pub mod Main

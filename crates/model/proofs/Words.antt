@@ -1,0 +1,74 @@
+-- Laws of sums and differences modulo 2^32. Assumes nothing.
+use Prim.Native.Nat.{ℕ, _≤_, _<_, _^_, _+_, _%_, zero, suc, _*_, _-_}
+use mathlib.Core.Path.{_≡_}
+use native.Mathlib.Omega.{arith}
+use Rattle.model.specs.Word.{addW, subW}
+
+pub add-below : (a b : ℕ) → addW a b < 2 ^ 32
+unfolding addW
+add-below a b = omega arith
+
+pub sub-below : (a b : ℕ) → subW a b < 2 ^ 32
+unfolding subW
+sub-below a b = omega arith
+
+-- "k at most C, then its credit at most the difference C - k": such a difference does not wrap
+pub subW-exact : {a b : ℕ} → a < 2 ^ 32 → b ≤ a → subW a b ≡ a - b
+unfolding subW
+subW-exact h l = omega arith
+
+-- a constant's value, in a sum
+pub addW-constant : (a i : ℕ) → addW a (i % 2 ^ 32) ≡ addW a i
+unfolding addW
+addW-constant a i = omega arith
+
+-- ---- for rules 14 to 18
+
+pub sum-mono : (a b c d : ℕ) → d < 2 ^ 32 → a ≤ c → b ≤ d → c ≤ addW c d → addW a b ≤ addW c d
+unfolding addW
+sum-mono a b c d w p q r = omega arith
+
+pub difference-mono : (a b c d : ℕ) → c < 2 ^ 32 → a ≤ c → d ≤ b → b ≤ a → subW a b ≤ subW c d
+unfolding subW
+difference-mono a b c d w p q r = omega arith
+
+pub successor-le : (a b : ℕ) → a < b → addW a 1 ≤ b
+unfolding addW
+successor-le a b h = omega arith
+
+pub le-of-successor : (a b : ℕ) → a < addW b 1 → a ≤ b
+unfolding addW
+le-of-successor a b h = omega arith
+
+pub no-overflow : (a b : ℕ) → b < 2 ^ 32 → a ≤ subW 4294967295 b → a ≤ addW a b
+unfolding subW addW
+no-overflow a b w p = omega arith
+
+-- ---- congruence
+
+infix 25 _≈_
+abbrev pub _≈_ : ℕ → ℕ → Type 0
+a ≈ b = a % 2 ^ 32 ≡ b % 2 ^ 32
+
+pub same-word : {a b : ℕ} → a ≈ b → a < 2 ^ 32 → b < 2 ^ 32 → a ≡ b
+same-word e v w = omega arith
+
+pub add-cong : (a b c d : ℕ) → a ≈ b → c ≈ d → a + c ≈ b + d
+add-cong a b c d p q = omega arith
+
+pub add-cancel : (a b c : ℕ) → a + c ≈ b + c → a ≈ b
+add-cancel a b c p = omega arith
+
+pub mul-cong : (a b e : ℕ) → a ≈ b → a * e ≈ b * e
+mul-cong a b zero h = omega arith
+mul-cong a b (suc e) h = omega (arith, mul-cong a b e h)
+
+-- a wrapped sum is congruent to the sum
+pub add-plain : (a b : ℕ) → addW a b ≈ a + b
+unfolding addW
+add-plain a b = omega arith
+
+-- a wrapped difference is congruent to the difference
+pub sub-plain : (a b : ℕ) → b < 2 ^ 32 → subW a b + b ≈ a
+unfolding subW
+sub-plain a b h = omega arith
