@@ -1,5 +1,6 @@
 pub mod Lists
 pub mod Gives
+pub mod Untouched
 pub mod Words
 pub mod Terms
 pub mod LinearForm

@@ -18,4 +18,5 @@ pub mod Derivation
 pub mod Verdict
 pub mod Runner
 pub mod Property
+pub mod Kept
 pub mod Samples
