@@ -16,9 +16,9 @@ use Rattle.model.specs.Verdict.{answered, judge}
 use Rattle.model.specs.declared.Refusal.{Refusal}
 use Rattle.model.specs.declared.Refusal.the-variants.{SmallWorkspace, WrongStart, PolicyLength, PolicySize, BadRegion, PolicyExpression, BadHeader, BadInstruction, BadTarget, BadAnnotation, AnnotationBytes, Unannotated, PastLast, LargeTerm, ProofExhausted, UnfitRule, DeepDerivation, BadArgument, ProofLeft}
 use Rattle.model.specs.declared.Verdict.{Verdict}
-use Rattle.model.proofs.Gives.{gives-element, gives-as, Gives, gives, gives-map, gives-value, gives-next, stops, gives-then}
-use Rattle.model.proofs.Lists.{_&_, Every, empty}
-use Rattle.model.proofs.Rules.{RegionsFit, ClaimHolds, SoundRule, rules-sound}
+use Rattle.model.proofs.Gives.{Gives, gives-map, gives-element, gives-as, gives, gives-then, gives-next, gives-value, stops}
+use Rattle.model.proofs.Lists.{empty, Every, _&_}
+use Rattle.model.proofs.Rules.{ClaimHolds, rules-sound, RegionsFit, SoundRule}
 use Rattle.model.proofs.Terms.{WordEnv}
 
 -- derivations of all atoms, where each derivation is right

@@ -13,8 +13,8 @@ use Rattle.model.specs.Routine.{Routine}
 use Rattle.model.specs.Term.{size}
 use Rattle.model.specs.declared.Instruction.{Instruction}
 use Rattle.model.specs.declared.Instruction.the-variants.{Set, Add, AddImmediate, Subtract, Load, Store, Jump, JumpLess, JumpEqual, Return}
-use Rattle.model.proofs.Lists.{_&_, Every}
-use Rattle.model.proofs.Terms.{RegisterTerm, RegisterAtom}
+use Rattle.model.proofs.Lists.{Every, _&_}
+use Rattle.model.proofs.Terms.{RegisterAtom, RegisterTerm}
 
 -- what goes into a register as it stands is a word
 unfoldable pub WordInstruction : Instruction → Type 0

@@ -5,7 +5,7 @@ use mathlib.Core.List.{List}
 use mathlib.Core.Path.{_≡_, refl, subst}
 use lib.ListN.{getElem?}
 use Rattle.model.specs.Result.{Result, _>>=_, check, found, stopAs, stop, value}
-use Rattle.model.proofs.Lists.{_&_, Every, empty}
+use Rattle.model.proofs.Lists.{empty, Every, _&_}
 
 -- P holds of the value, if there is one
 pub data Gives {E A : Type 0} (P : A → Type 0) : Result E A → Type 0 where
@@ -32,11 +32,6 @@ module _ {E : Type 0} where
   gives-check false e = stops
 
   module _ {A : Type 0} where
-    -- of a value of which nothing need be known
-    pub gives-any : (r : Result E A) → Gives (λ _. Unit {0}) r
-    gives-any (stop e) = stops
-    gives-any (value a) = gives tt
-
     module _ {P : A → Type 0} where
       pub gives-map : {Q : A → Type 0} {r : Result E A} → ((a : A) → Q a → P a) → Gives Q r → Gives P r
       gives-map k stops = stops

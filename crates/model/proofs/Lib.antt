@@ -1,6 +1,5 @@
 pub mod Lists
 pub mod Gives
-pub mod Untouched
 pub mod Words
 pub mod Terms
 pub mod LinearForm
@@ -11,5 +10,6 @@ pub mod Formed
 pub mod Reading
 pub mod Paths
 pub mod Walk
-pub mod Blocks
-pub mod Main
+pub mod Property
+pub mod Kept
+pub mod Samples

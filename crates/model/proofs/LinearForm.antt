@@ -8,8 +8,8 @@ use borrow.Author.Tests.{eqb-true, eqb-false, ne-eqb}
 use Rattle.model.specs.Linear.{constantOf, coefficientOf, variableBound, sameCoefficients, sameForm}
 use Rattle.model.specs.Term.{Term, eval, constant, variable, sum, difference}
 use Rattle.model.specs.Word.{addW, subW}
-use Rattle.model.proofs.Terms.{eval-word, and-right, and-left, WordEnv}
-use Rattle.model.proofs.Words.{same-word, add-below, add-plain, add-cong, sub-below, mul-cong, _≈_, sub-plain, add-cancel}
+use Rattle.model.proofs.Terms.{and-right, eval-word, WordEnv, and-left}
+use Rattle.model.proofs.Words.{sub-plain, _≈_, add-plain, add-below, mul-cong, add-cong, add-cancel, same-word, sub-below}
 
 constant-word : (t : Term) → constantOf t < 2 ^ 32
 unfolding constantOf

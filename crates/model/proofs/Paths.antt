@@ -19,9 +19,9 @@ use Rattle.model.specs.Word.{addW}
 use Rattle.model.specs.declared.Instruction.{Instruction}
 use Rattle.model.specs.declared.Instruction.the-variants.{Set, Add, AddImmediate, Subtract, Load, Store, Jump, JumpLess, JumpEqual, Return}
 use Rattle.model.proofs.Derivations.{GoalHolds}
-use Rattle.model.proofs.Lists.{below-set, _&_, every-left, every-right, Every, map-set, every-tail, every-head}
+use Rattle.model.proofs.Lists.{map-set, every-right, every-left, every-tail, every-head, Every, below-set, _&_}
 use Rattle.model.proofs.Rules.{ClaimHolds}
-use Rattle.model.proofs.Terms.{hold-snoc, eval-word, eval-substitute, WordEnv, holds-substitute}
+use Rattle.model.proofs.Terms.{holds-substitute, eval-word, hold-snoc, WordEnv, eval-substitute}
 use Rattle.model.proofs.Words.{subW-exact, addW-constant}
 
 -- Each register holds the value of its term, and the path's assumptions are true.

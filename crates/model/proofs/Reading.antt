@@ -24,10 +24,10 @@ use Rattle.model.specs.declared.Refusal.{Refusal}
 use Rattle.model.specs.declared.Refusal.the-variants.{PolicySize, BadRegion, BadHeader, BadAnnotation}
 use Rattle.model.specs.declared.Sizes.{Sizes}
 use Rattle.model.proofs.Formed.{FormedAnnotation, FormedRoutine, WordInstruction}
-use Rattle.model.proofs.Gives.{gives-element, gives-as, Gives, gives-check, gives, gives-value, gives-next, stops, gives-then}
-use Rattle.model.proofs.Lists.{below-get, _&_, Every, empty}
+use Rattle.model.proofs.Gives.{Gives, gives-check, gives-element, gives-as, gives, gives-then, gives-next, gives-value, stops}
+use Rattle.model.proofs.Lists.{empty, below-get, Every, _&_}
 use Rattle.model.proofs.Rules.{RegionsFit}
-use Rattle.model.proofs.Terms.{RegisterTerm, and-right, RegisterAtom}
+use Rattle.model.proofs.Terms.{RegisterAtom, and-right, RegisterTerm}
 
 -- ---- expressions and atoms over the registers
 

@@ -19,11 +19,10 @@ use Rattle.model.specs.Word.{addW, subW}
 use Rattle.model.specs.declared.Comparison.{Comparison}
 use Rattle.model.specs.declared.Comparison.the-variants.{Equal, Unequal, Less, AtMost}
 use Rattle.model.specs.declared.Region.{Region}
-use Rattle.model.proofs.Gives.{gives-element, Gives, gives-check, gives, gives-map, stops, gives-then}
+use Rattle.model.proofs.Gives.{Gives, gives-map, gives-check, gives-element, gives, gives-then, stops}
 use Rattle.model.proofs.LinearForm.{linear-sound}
-use Rattle.model.proofs.Lists.{_&_, Every, empty}
-use Rattle.model.proofs.Terms.{same-kind, eval-word, same-atom, and-both, and-right, and-left, closed-holds, same-term, WordEnv}
-use Rattle.model.proofs.Words.{successor-le, difference-mono, sum-mono, le-of-successor, no-overflow}
+use Rattle.model.proofs.Lists.{empty, Every, _&_}
+use Rattle.model.proofs.Terms.{same-atom, same-term, and-both, and-right, same-kind, eval-word, WordEnv, and-left, closed-holds}
 
 -- what a claim says under an environment
 unfoldable pub ClaimHolds : Policy → (ℕ → ℕ) → Claim → Type 0
@@ -204,43 +203,43 @@ module _ (policy : Policy) (fit : RegionsFit policy) (g : Goal) (env : ℕ → �
   zero-at-most-sound c =
       gives-then (sides policy env AtMost c) λ s enough. gives-then (same (s .0) (constant 0)) λ _ e. gives (λ _. enough (omega arith))
 
-  -- ---- rules 14 to 18: each is a law of `Words`
+  -- ---- rules 14 to 18: linear arithmetic with the wrap of `addW` and `subW`
 
   sum-monotone-sound : SoundRule sum-monotone
-  unfolding premises Compares AllHold Holds eval
+  unfolding premises Compares AllHold Holds eval addW
   sum-monotone-sound c =
       gives-then (sides policy env AtMost c) λ s enough.
       gives-then (sum-of env (s .0)) λ l u.
       gives-then (sum-of env (s .1)) λ r v.
-      gives (λ p. enough (rw (u, v) (sum-mono _ _ _ _ (eval-word env (r .1) words) (p .0) (p .1 .0) (p .1 .1 .0))))
+      gives (λ p. enough (omega (arith, u, v, eval-word env (r .0) words, eval-word env (r .1) words)))
 
   difference-monotone-sound : SoundRule difference-monotone
-  unfolding premises Compares AllHold Holds
+  unfolding premises Compares AllHold Holds subW
   difference-monotone-sound c =
       gives-then (sides policy env AtMost c) λ s enough.
       gives-then (difference-of env (s .0)) λ l u.
       gives-then (difference-of env (s .1)) λ r v.
-      gives (λ p. enough (rw (u, v) (difference-mono _ _ _ _ (eval-word env (r .0) words) (p .0) (p .1 .0) (p .1 .1 .0))))
+      gives (λ p. enough (omega (arith, u, v, eval-word env (r .0) words, eval-word env (l .1) words)))
 
   successor-at-most-sound : SoundRule successor-at-most
-  unfolding premises Compares AllHold Holds eval
+  unfolding premises Compares AllHold Holds eval addW
   successor-at-most-sound c =
       gives-then (sides policy env AtMost c) λ s enough.
       gives-then (sum-of env (s .0)) λ l u.
-      gives-then (same (l .1) (constant 1)) λ _ e.
-      gives (λ p. enough (rw (u, e) (successor-le _ _ (p .0))))
+      gives-then (same (l .1) _) λ _ e.
+      gives (λ p. enough (omega (arith, u, e)))
 
   below-successor-sound : SoundRule below-successor
-  unfolding premises Compares AllHold Holds eval
-  below-successor-sound c = by-sides AtMost c _ λ s p. le-of-successor _ _ (p .0)
+  unfolding premises Compares AllHold Holds eval addW
+  below-successor-sound c = by-sides AtMost c _ λ s p. omega arith
 
   sum-no-overflow-sound : SoundRule sum-no-overflow
-  unfolding premises Compares AllHold Holds eval
+  unfolding premises Compares AllHold Holds eval addW subW
   sum-no-overflow-sound c =
       gives-then (sides policy env AtMost c) λ s enough.
       gives-then (sum-of env (s .1)) λ r v.
       gives-then (same (s .0) (r .0)) λ _ e.
-      gives (λ p. enough (rw (v, ← e) (no-overflow _ _ (eval-word env (r .1) words) (p .0))))
+      gives (λ p. enough (omega (arith, v, e, eval-word env (r .0) words, eval-word env (r .1) words)))
 
   -- ---- rules 19 to 21: as 4 to 10
 

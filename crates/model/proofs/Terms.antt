@@ -14,7 +14,7 @@ use Rattle.model.specs.Term.{Term, eval, closed, eqTerm, substitute, con
 use Rattle.model.specs.Word.{addW, subW}
 use Rattle.model.specs.declared.Comparison.{Comparison}
 use Rattle.model.specs.declared.Comparison.the-variants.{Equal, Unequal, Less, AtMost}
-use Rattle.model.proofs.Lists.{_&_, Every, empty}
+use Rattle.model.proofs.Lists.{empty, Every, _&_}
 
 -- ---- tests
 

@@ -10,7 +10,7 @@ use lib.Dec.{eqb, ltb, lit<}
 use lib.ListN.{getElem?, getD}
 use borrow.Author.Tests.{ltb-true, ltb-false, eqb-true, eqb-false}
 use Rattle.model.specs.Annotation.{Annotation, annotationAt}
-use Rattle.model.specs.Atom.{Atom, equal, unequal, less, atMost, Compares, holds, Holds}
+use Rattle.model.specs.Atom.{Atom, Compares, holds, Holds}
 use Rattle.model.specs.Goals.{Path, termOf, addressTerm, goalOf, pathTo, onward, assuming, assigning, loading, arrival, returning, Move, smallEnough, assign, atTarget, jump, branch, move, landing, tracing, walk, readable, writable, finish, goes, ends}
 use Rattle.model.specs.Machine.{State, word, address, assigned, stored, jumped, branched, permitted, execute, step, next}
 use Rattle.model.specs.Policy.{Policy}
@@ -24,9 +24,9 @@ use Rattle.model.specs.declared.Instruction.{Instruction}
 use Rattle.model.specs.declared.Instruction.the-variants.{Set, Add, AddImmediate, Subtract, Load, Store, Jump, JumpLess, JumpEqual, Return}
 use Rattle.model.proofs.Derivations.{GoalHolds, Sound, sound-goals, sound-rest}
 use Rattle.model.proofs.Formed.{FormedRoutine, WordInstruction}
-use Rattle.model.proofs.Lists.{below-get, every-at, Every, get-inside, every-head}
-use Rattle.model.proofs.Paths.{assigned-matches, arrived-atoms, loadedBy, returned-atoms, address-value, Matches, ahead-load, assuming-matches, load-value, writable-here, Ahead, register-value, stored-matches, readable-here, jumped-matches, arrived-credit, ahead-next, returned-credit}
-use Rattle.model.proofs.Runs.{SafeRun, safe-step, safe-rest, step-execute, last, SafeBelow}
+use Rattle.model.proofs.Lists.{every-at, below-get, every-head, Every, get-inside}
+use Rattle.model.proofs.Paths.{jumped-matches, assuming-matches, load-value, stored-matches, Matches, arrived-atoms, register-value, loadedBy, writable-here, Ahead, readable-here, ahead-next, ahead-load, returned-atoms, returned-credit, address-value, assigned-matches, arrived-credit}
+use Rattle.model.proofs.Runs.{safe-rest, safe-step, step-execute, SafeRun, last, SafeBelow}
 use Rattle.model.proofs.Terms.{eval-word, WordEnv}
 
 -- A block in an environment; the annotations of a lower credit are safe.
@@ -182,12 +182,12 @@ module _ (policy : Policy) (routine : Routine) (formed : FormedRoutine routine)
     instruction-safe (Store d a i) f w q = store-safe d a i f q
     instruction-safe (Jump i) f w q = jumps (Jump i) f refl tt i refl _ refl q
     instruction-safe (JumpLess a b i) f w q =
-        branches (JumpLess a b i) f refl tt i (less (termOf s a) (termOf s b)) (atMost (termOf s b) (termOf s a)) (ltb (word m a) (word m b))
+        branches (JumpLess a b i) f refl tt i _ _ (ltb (word m a) (word m b))
         (λ t. rw (register-value h a, register-value h b) (ltb-true (word m a) (word m b) t))
         (λ t. rw (register-value h a, register-value h b) (ltb-false (word m a) (word m b) t))
         refl _ refl q
     instruction-safe (JumpEqual a b i) f w q =
-        branches (JumpEqual a b i) f refl tt i (equal (termOf s a) (termOf s b)) (unequal (termOf s a) (termOf s b)) (eqb (word m a) (word m b))
+        branches (JumpEqual a b i) f refl tt i _ _ (eqb (word m a) (word m b))
         (λ t. rw (register-value h a, register-value h b) (eqb-true (word m a) (word m b) t))
         (λ t. rw (register-value h a, register-value h b) (eqb-false (word m a) (word m b) t))
         refl _ refl q

@@ -22,28 +22,6 @@ pub addW-constant : (a i : ℕ) → addW a (i % 2 ^ 32) ≡ addW a i
 unfolding addW
 addW-constant a i = omega arith
 
--- ---- for rules 14 to 18
-
-pub sum-mono : (a b c d : ℕ) → d < 2 ^ 32 → a ≤ c → b ≤ d → c ≤ addW c d → addW a b ≤ addW c d
-unfolding addW
-sum-mono a b c d w p q r = omega arith
-
-pub difference-mono : (a b c d : ℕ) → c < 2 ^ 32 → a ≤ c → d ≤ b → b ≤ a → subW a b ≤ subW c d
-unfolding subW
-difference-mono a b c d w p q r = omega arith
-
-pub successor-le : (a b : ℕ) → a < b → addW a 1 ≤ b
-unfolding addW
-successor-le a b h = omega arith
-
-pub le-of-successor : (a b : ℕ) → a < addW b 1 → a ≤ b
-unfolding addW
-le-of-successor a b h = omega arith
-
-pub no-overflow : (a b : ℕ) → b < 2 ^ 32 → a ≤ subW 4294967295 b → a ≤ addW a b
-unfolding subW addW
-no-overflow a b w p = omega arith
-
 -- ---- congruence
 
 infix 25 _≈_

@@ -200,10 +200,10 @@ module _ (policy : Policy) (g : Goal) where
     (p, q) ← differenceOf r
     value (atMost a p ∷ atMost q b ∷ atMost b a ∷ [])
   premises successor-at-most c = do
-    (l, b) ← sidesOf AtMost c
+    (l, r) ← sidesOf AtMost c
     (a, one) ← sumOf l
     _ ← check (eqTerm one (constant 1)) misfit
-    value (less a b ∷ [])
+    value (less a r ∷ [])
   premises below-successor c = do
     (a, b) ← sidesOf AtMost c
     value (less a (sum b (constant 1)) ∷ [])

@@ -1,6 +1,5 @@
--- The commissioning samples of document 01 that are marked (P), as one list that the definitions evaluate. Assumes nothing.
+-- The commissioning samples of document 01 that are marked (P), as one list that the definitions evaluate (proofs/Samples). Assumes nothing.
 use Prim.Native.Nat.{ℕ}
-use mathlib.Core.Path.{_≡_, refl}
 use mathlib.Core.Bool.{Bool, true, _&&_}
 use mathlib.Core.List.{List, [], _∷_, _++_}
 use lib.ListN.{replicate}
@@ -117,8 +116,3 @@ samples =
     ∷ sample (to-checker (policyS 8) packageSeven) 0 0 1
     ∷ sample (to-checker (policyS 8) packageEight) 14 7 0
     ∷ []
-
--- every sample has its answer
-pub samples-right : allRight samples ≡ true
-unfolding allRight
-samples-right = refl

@@ -1,17 +1,18 @@
 -- In every run, a memory word that the policy does not make writable keeps what it held. Assumes nothing.
-use Prim.Native.Nat.{ℕ, zero, suc, _+_}
-use mathlib.Core.Path.{_≡_, refl, sym, ap, _∙_}
+use Prim.Native.Nat.{ℕ, _+_, zero, suc}
 use mathlib.Core.Bool.{Bool, true, false}
-use mathlib.Core.Option.{Option, none, some}
 use mathlib.Core.List.{List}
+use mathlib.Core.Option.{some, none, Option}
+use mathlib.Core.Path.{_≡_, refl, ap, _∙_, sym}
 use native.Mathlib.Omega.{arith}
-use lib.ListN.{getD, getElem?}
-use lib.Dec.{ltb, eqb}
-use Rattle.model.specs.Result.{Result, stop, value}
-use Rattle.model.specs.Policy.{Policy, readPolicy, readableWord, writableWord}
-use Rattle.model.specs.Machine.{State, startOf, Step, next, returns, without-right, past-end, word, address, assigned, stored, permitted, execute, branched, step}
-use Rattle.model.specs.Runner.{runFrom, readStart, runOf}
+use lib.Dec.{eqb, ltb}
+use lib.ListN.{getElem?, getD}
 use Rattle.model.specs.Kept.{Protected, Kept}
+use Rattle.model.specs.Machine.{State, startOf, Step, word, address, assigned, stored, branched, permitted, execute, step, next, returns, without-right, past-end}
+use Rattle.model.specs.Policy.{Policy, readableWord, writableWord, readPolicy}
+use Rattle.model.specs.Result.{Result, stop, value}
+use Rattle.model.specs.Runner.{runFrom, readStart, runOf}
+use Rattle.model.specs.Samples.{right}
 use Rattle.model.specs.declared.Instruction.{Instruction}
 use Rattle.model.specs.declared.Instruction.the-variants.{Set, Add, AddImmediate, Subtract, Load, Store, Jump, JumpLess, JumpEqual, Return}
 use Rattle.model.specs.declared.Refusal.{Refusal}

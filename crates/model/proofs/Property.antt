@@ -1,4 +1,4 @@
--- All blocks together: from each annotation, and from the entry, the machine returns within the credit. Assumes nothing.
+-- Property 3: from each annotation and from the entry the machine returns within the credit, and so an accepted routine is safe. Assumes nothing.
 use Prim.Native.Nat.{ℕ, _≤_, _<_, _^_, _+_, _%_, zero, suc, _-_}
 use mathlib.Core.List.{List, [], _∷_, _++_, map}
 use mathlib.Core.Option.{some, none, Option}
@@ -8,22 +8,28 @@ use native.Mathlib.Omega.{arith}
 use lib.Dec.{lit<}
 use lib.ListN.{length, getD, List·getD-append}
 use lib.Seq.{getD-append-add}
+use borrow.Author.Tests.{eq-eqb}
 use Rattle.model.specs.Annotation.{Annotation, annotationAt}
 use Rattle.model.specs.Atom.{Atom, AllHold, registersOf}
 use Rattle.model.specs.Goals.{registerVariables, blockStart, arrival, landing, walk, entryBlock, annotationBlock, annotationBlocks, traceOf, finish}
-use Rattle.model.specs.Machine.{State}
-use Rattle.model.specs.Policy.{Policy}
-use Rattle.model.specs.Property.{Words}
-use Rattle.model.specs.Result.{found}
-use Rattle.model.specs.Routine.{Routine}
+use Rattle.model.specs.Machine.{State, startOf, returns}
+use Rattle.model.specs.Package.{codeOf}
+use Rattle.model.specs.Policy.{Policy, readPolicy}
+use Rattle.model.specs.Property.{Words, Returns, Property}
+use Rattle.model.specs.Result.{_>>=_, check, found, value}
+use Rattle.model.specs.Routine.{Routine, readRoutine}
+use Rattle.model.specs.Runner.{stopped, runFrom, readStart, runOf}
 use Rattle.model.specs.Term.{Term, eval, constant, variable}
+use Rattle.model.specs.Verdict.{readInputs, checkOf}
 use Rattle.model.specs.declared.Instruction.{Instruction}
-use Rattle.model.proofs.Derivations.{sound-second, Sound, sound-goals, sound-blocks, sound-first}
-use Rattle.model.proofs.Formed.{found-at, FormedRoutine}
+use Rattle.model.proofs.Derivations.{judge-sound, sound-second, sound-first, Sound, sound-goals, answered-value, sound-blocks}
+use Rattle.model.proofs.Formed.{FormedRoutine, found-at}
+use Rattle.model.proofs.Gives.{Gives, gives, gives-next, gives-value}
 use Rattle.model.proofs.Lists.{below-get, Every}
-use Rattle.model.proofs.Paths.{loads, arrived-atoms, Matches, Ahead, arrived-credit}
-use Rattle.model.proofs.Runs.{SafeRun, safe-rest, SafeBelow}
-use Rattle.model.proofs.Terms.{RegisterTerm, eval-same, RegisterAtom, hold-same, WordEnv}
+use Rattle.model.proofs.Paths.{loads, Matches, arrived-atoms, Ahead, arrived-credit}
+use Rattle.model.proofs.Reading.{routine-formed, policy-formed}
+use Rattle.model.proofs.Runs.{safe-rest, runs-enough, SafeRun, runs-ready, SafeBelow, runs-after, runs-spent}
+use Rattle.model.proofs.Terms.{RegisterAtom, RegisterTerm, eval-same, WordEnv, hold-same}
 use Rattle.model.proofs.Walk.{walk-safe}
 
 -- ---- variables in a row
@@ -162,3 +168,62 @@ module _ (policy : Policy) (routine : Routine) (formed : FormedRoutine routine) 
               let here = ap (annotationAt (routine .annotations)) at ∙ found in
               safe-rest (arrived-credit matches wordEnv credit a gs)
               (annotations-safe _ a m here words (arrived-atoms matches wordEnv credit a gs) (lt-suc-self _))
+
+-- ---- the runner
+
+module _ (policyBytes packageBytes : List ℕ) {policy : Policy} {code : List Instruction}
+    (policyRead : readPolicy policyBytes ≡ value policy) (codeRead : codeOf packageBytes ≡ value code)
+    (registers memory : List ℕ) (words : Words policy registers memory) where
+  -- the runner's checks pass
+  start-read : readStart policyBytes packageBytes registers memory ≡ value (policy, code)
+  unfolding readStart _>>=_ check
+  start-read =
+      rw (policyRead, eq-eqb (length registers) 16 (words .registerCount), eq-eqb (length memory) (policy .memory) (words .memoryCount), codeRead)
+
+  run-from : (budget : ℕ) → runOf policyBytes packageBytes registers memory budget ≡ runFrom policy code budget 0 (startOf registers memory)
+  unfolding runOf
+  run-from budget = rw (start-read, runOf)
+
+  returns-of : SafeRun policy code 0 (policy .limit) (startOf registers memory) → Returns policyBytes packageBytes policy code registers memory
+  returns-of h =
+      record {
+        steps = h .steps;
+        final = h .final;
+        returns = runs-after policy code (h .runs);
+        within = rw zero-add at (h .within);
+        postcondition = h .postcondition;
+        ready = runs-ready policy code (h .runs);
+        enough = λ budget l.
+            let q = runs-enough policy code (h .runs) budget 0 l in
+            run-from budget ∙ q ∙ ap (λ (k : ℕ). stopped 0 k (h .final)) (zero-add (h .steps));
+        spent = λ budget l.
+            let (s, a, q) = runs-spent policy code (h .runs) budget 0 l in
+            (s, a, run-from budget ∙ q ∙ ap (λ (k : ℕ). stopped 20 k s) (zero-add budget));
+      }
+
+-- ---- the theorem
+
+inputs-read : (workspace : ℕ) (policyBytes packageBytes : List ℕ)
+    → Gives (λ (i : Policy × Routine). (readPolicy policyBytes ≡ value (i .0)) × (readRoutine packageBytes ≡ value (i .1)))
+    (readInputs workspace policyBytes packageBytes)
+unfolding readInputs
+inputs-read workspace policyBytes packageBytes = gives-next λ _ _. gives-next λ _ e. gives-next λ _ f. gives (e, f)
+
+pub property : Property
+unfolding Property checkOf
+property workspace policyBytes packageBytes packageBelow e =
+    let (inputs, passed, judged) = answered-value (readInputs workspace policyBytes packageBytes) 0 _ e in
+    let (policy, routine) = inputs in
+    let (policyRead, routineRead) = gives-value passed (inputs-read workspace policyBytes packageBytes) in
+    let (formed, codeRead) = gives-value routineRead (routine-formed packageBytes packageBelow) in
+    let (fit, pre) = gives-value policyRead (policy-formed policyBytes) in
+    let sound = judge-sound packageBytes policy fit (traceOf policy routine) (routine .proof) 0 judged in
+    record {
+      policy = policy;
+      code = routine .code;
+      policyRead = policyRead;
+      codeRead = codeRead;
+      runs = λ registers memory words hold.
+          returns-of policyBytes packageBytes policyRead codeRead registers memory words
+          (entry-safe policy routine formed sound pre (startOf registers memory) refl words hold);
+    }
