@@ -1,0 +1,75 @@
+// What the programs share: whole files read into lent buffers, and answers printed.
+use libc::STDOUT_FILENO;
+ghost use mathlib.Core.Path.{_≡_};
+ghost use Prim.Native.Nat.{_+_, _*_, _≤_};
+ghost use lib.ListN.{length};
+ghost use Rattle.console.specs.Words.{wordsFrom};
+ghost use Rattle.console.specs.Loaded.{Within};
+
+// So many bytes at the start of the buffer, or nothing: the file cannot be read, and a message on standard error has named it.
+pub enum Loaded {
+    Bytes(usize),
+    Unreadable,
+}
+
+// Reads from a descriptor until the buffer is full or the input ends.
+fn fill(fd: i32, name: &[u8], buf: &mut [u8]) -> Loaded
+    ensures { λ r. ⌜ Within r (length (now (buf .entry))) ⌝ }
+{
+    let mut done: usize = 0;
+    while done < buf.len() {
+        let got = libc::read(fd, &mut buf[done..]);
+        if got < 0 {
+            os::fail(name);
+            return Loaded::Unreadable;
+        }
+        let count = io::count(got, &buf[done..]);
+        if count == 0 {
+            return Loaded::Bytes(done);
+        }
+        done += count;
+    }
+    Loaded::Bytes(done)
+}
+
+// The bytes of a file, as many as the buffer holds.
+pub fn load(name: &[u8], buf: &mut [u8]) -> Loaded
+    ensures { λ r. ⌜ Within r (length (now (buf .entry))) ⌝ }
+{
+    let fd = os::open_read(name);
+    if fd < 0 {
+        os::fail(name);
+        return Loaded::Unreadable;
+    }
+    let loaded = fill(fd, name, buf);
+    libc::close(fd);
+    loaded
+}
+
+// Fills a slice with the words that stand in the bytes from word `first` on.
+pub fn words(bytes: &[u8], first: usize, out: &mut [u32])
+    requires { ⌜ 4 * first + 4 * length (now out) ≤ length (now bytes) ⌝ }
+    ensures { λ _. ⌜ now (out .exit) ≡ wordsFrom (now (bytes .entry)) first (length (now (out .entry))) ⌝ }
+{
+    let mut i: usize = 0;
+    while i < out.len() {
+        out[i] = fields::word(bytes, 4 * (first + i));
+        i += 1;
+    }
+}
+
+// Prints a name and a number, as in `place=7`.
+fn print_field(name: &[u8], value: u64) {
+    io::write_all(STDOUT_FILENO, name);
+    io::write_all(STDOUT_FILENO, b"=");
+    io::print_decimal(STDOUT_FILENO, value);
+}
+
+// Prints an answer of three named numbers as a line.
+pub fn print_answer(name: &[u8], number: u32, place: usize, counted: &[u8], count: u64) {
+    print_field(name, number as u64);
+    print_field(b" place", place as u64);
+    io::write_all(STDOUT_FILENO, b" ");
+    print_field(counted, count);
+    io::write_all(STDOUT_FILENO, b"\n");
+}
