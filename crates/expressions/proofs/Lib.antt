@@ -1,0 +1,2 @@
+pub mod ScanningLaws
+pub mod ReadingLaws
