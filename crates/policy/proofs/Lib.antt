@@ -1,1 +1,2 @@
 pub mod SizesLaws
+pub mod RegionsLaws

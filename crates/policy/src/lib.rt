@@ -1,10 +1,13 @@
 // The policy: checks 3 to 6, in reading order.
 use model::Refusal;
+use model::Region;
 use model::Sizes;
 ghost use mathlib.Core.Path.{_≡_};
-ghost use Prim.Native.Nat.{_+_, _≤_, _<_};
-ghost use Rattle.model.specs.Policy.{sizesOf};
+ghost use Prim.Native.Nat.{_+_, _*_, _≤_, _<_};
+ghost use lib.ListN.{length};
+ghost use Rattle.model.specs.Policy.{sizesOf, regionAt, regionFits, regionsFrom};
 ghost use Rattle.policy.specs.Sizes.{fieldResult, sizesResult, inRange, sizeByte, memoryField};
+ghost use Rattle.policy.specs.Regions.{regionsResult};
 
 // A field of the sizes, or why the policy is refused.
 pub enum FieldAnswer {
@@ -82,4 +85,66 @@ fn sizes(bytes: &[u8]) -> SizesAnswer
         memory: memory,
         limit: fields::word(bytes, 8),
     })
+}
+
+// What reading the regions gives: the answer, and the regions, those past the count being 0.
+pub struct RegionsRead {
+    pub answer: PolicyAnswer,
+    pub regions: [Region; 8],
+}
+
+// A policy passed, or why it is refused.
+pub enum PolicyAnswer {
+    Passed,
+    Refused(Refusal),
+}
+
+// Region j of so many.
+fn region(bytes: &[u8], count: usize, j: usize) -> Region
+    requires { ⌜ (count ≤ 8) × ((j < count) × (12 + 8 * count ≤ length (now bytes))) ⌝ }
+    ensures { λ r. ⌜ r ≡ regionAt (now (bytes .entry)) count j ⌝ }
+{
+    let base = fields::word(bytes, 12 + 4 * j);
+    let extent = fields::word(bytes, 12 + 4 * count + 4 * j);
+    Region {
+        base: base,
+        size: extent / 4,
+        rights: extent % 4,
+    }
+}
+
+// The region has a right, a length of 1 or more, and lies below M.
+fn fits(region: Region, memory: u32) -> bool
+    ensures { λ r. ⌜ r ≡ regionFits memory region ⌝ }
+{
+    let end = region.base as u64 + region.size as u64;
+    (1 <= region.rights) & (1 <= region.size) & (end <= memory as u64)
+}
+
+// The regions, one by one.
+fn regions(bytes: &[u8], sizes: Sizes) -> RegionsRead
+    requires { ⌜ (sizes .regions ≤ 8) × (12 + 8 * sizes .regions ≤ length (now bytes)) ⌝ }
+    ensures { λ r. ⌜ regionsResult (sizes .regions) r ≡ regionsFrom (now (bytes .entry)) sizes (sizes .regions) 0 ⌝ }
+{
+    let mut regions = [Region {
+        base: 0,
+        size: 0,
+        rights: 0,
+    }; 8];
+    let mut j = 0;
+    while j < sizes.regions {
+        let next = region(bytes, sizes.regions, j);
+        if !fits(next, sizes.memory) {
+            return RegionsRead {
+                answer: PolicyAnswer::Refused(Refusal::BadRegion(j)),
+                regions: regions,
+            };
+        }
+        regions[j] = next;
+        j += 1;
+    }
+    RegionsRead {
+        answer: PolicyAnswer::Passed,
+        regions: regions,
+    }
 }
