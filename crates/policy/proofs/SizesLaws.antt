@@ -1,15 +1,15 @@
 -- The ways out of the functions that read the sizes. Assumes nothing.
 use Prim.Native.Nat.{ℕ, zero, suc, _+_, _≤_, _<_}
-use mathlib.Core.Path.{_≡_, refl, sym, ap, _∙_}
-use mathlib.Core.Bool.{Bool, true, false, _&&_}
+use mathlib.Core.Path.{_≡_, refl, sym, _∙_}
+use mathlib.Core.Bool.{true, false, _&&_}
 use mathlib.Core.List.{List}
 use native.Mathlib.Omega.{arith}
 use lib.ListN.{length, getD}
 use lib.Dec.{leb, eqb, leb·zero, leb·suc-zero, eqb·suc-zero}
-use borrow.Author.Tests.{le-leb, lt-leb}
-use Rattle.model.specs.Result.{Result, stop, value, _>>=_, check, stopAs}
+use borrow.Author.Tests.{le-leb, lt-leb, leb-true}
+use Rattle.model.specs.Result.{Result, value, _>>=_, check, stopAs}
 use Rattle.model.specs.Word.{le32}
-use Rattle.model.specs.Field.{byteAt, wordAt, missing}
+use Rattle.model.specs.Field.{byteAt, wordAt}
 use Rattle.model.specs.Policy.{policyField, policyRefusal, sizesOf}
 use Rattle.model.specs.declared.Sizes.{Sizes}
 use Rattle.model.specs.declared.Refusal.{Refusal}
@@ -17,18 +17,18 @@ use Rattle.model.specs.declared.Refusal.the-variants.{PolicyLength, PolicySize}
 use Rattle.policy.specs.Sizes.{fieldResult, sizesResult, inRange, sizeByte, memoryField}
 use Rattle.policy.specs.declared.FieldAnswer.{FieldAnswer}
 use Rattle.policy.specs.declared.FieldAnswer.the-variants as field
-use Rattle.policy.specs.declared.SizesAnswer.{SizesAnswer}
 use Rattle.policy.specs.declared.SizesAnswer.the-variants as sizes
+use Rattle.policy.proofs.Results.{then-then, value-then, Gives, gives, gives-then, gives-check, gives-any, and-left, and-right}
 
 -- in_range
 module _ (at least most n : ℕ) where
   pub inside : (leb least n && leb n most) ≡ true → fieldResult (field.Passed n) ≡ inRange at least most n
   unfolding fieldResult inRange _>>=_ check
-  inside e = rw (e)
+  inside e = rw e
 
   pub outside : (leb least n && leb n most) ≡ false → fieldResult (field.Refused (PolicySize at)) ≡ inRange at least most n
   unfolding fieldResult inRange _>>=_ check
-  outside e = rw (e)
+  outside e = rw e
 
 -- size_byte
 module _ (bytes : List ℕ) (at least most : ℕ) where
@@ -40,7 +40,7 @@ module _ (bytes : List ℕ) (at least most : ℕ) where
   unfolding sizeByte byteAt _>>=_ check stopAs
   a-byte r h e = rw (le-leb (at + 1) (length bytes) (omega arith)) e
 
--- memory
+-- memory_field
 module _ (bytes : List ℕ) where
   pub no-word : length bytes < 8 → fieldResult (field.Refused (PolicyLength (length bytes))) ≡ memoryField bytes
   unfolding fieldResult memoryField wordAt _>>=_ check stopAs policyRefusal
@@ -50,18 +50,7 @@ module _ (bytes : List ℕ) where
   unfolding memoryField wordAt _>>=_ check stopAs
   a-word r h e = rw (le-leb 8 (length bytes) h) e
 
--- sizes
--- a number that is tested and then used
-tested : {E A : Type 0} (m : Result E ℕ) (test : ℕ → Bool) (e : E) (k : ℕ → Result E A) →
-    (m >>= (λ n. check (test n) e >>= (λ _. value n)) >>= k) ≡ (m >>= (λ n. check (test n) e >>= (λ _. k n)))
-unfolding _>>=_ check
-tested (stop r) test e k = refl
-tested (value n) test e k = on (test n)
-  where
-    on : (t : Bool) → ((check t e >>= (λ _. value n)) >>= k) ≡ (check t e >>= (λ _. k n))
-    on true = refl
-    on false = refl
-
+-- read_sizes
 at-most-zero : (n : ℕ) → leb n 0 ≡ eqb n 0
 at-most-zero zero = refl
 at-most-zero (suc n) = leb·suc-zero n ∙ sym (eqb·suc-zero n)
@@ -79,7 +68,7 @@ sizesBy bytes = do
 
 pub by-fields : (bytes : List ℕ) → sizesOf bytes ≡ sizesBy bytes
 unfolding sizesBy sizesOf sizeByte memoryField inRange
-by-fields bytes = simp (tested, leb·zero, at-most-zero)
+by-fields bytes = simp (then-then, value-then, leb·zero, at-most-zero)
 
 -- One more field: the whole reading `w` is a field and then `k`.
 module _ (m : Result Refusal ℕ) (k : ℕ → Result Refusal Sizes) (r : FieldAnswer) {w : Result Refusal Sizes} where
@@ -100,3 +89,36 @@ module _ (bytes : List ℕ) (k : ℕ → Result Refusal Sizes) {w : Result Refus
   pub limit : 12 ≤ length bytes → w ≡ k (le32 bytes 8)
   unfolding wordAt _>>=_ check stopAs
   limit h = p ∙ rw (le-leb 12 (length bytes) h)
+
+-- What holds of the sizes that are read.
+in-range : (at least most n : ℕ) → Gives (λ m. (least ≤ m) × (m ≤ most)) (inRange at least most n)
+unfolding inRange
+in-range at least most n = gives-then (gives-check (leb least n && leb n most) (PolicySize at)) λ _ e. gives (leb-true least n (and-left (leb least n) (leb n most) e), leb-true n most (and-right (leb least n) (leb n most) e))
+
+pub record Sized (s : Sizes) : Type 0 where
+  pub some-regions : 1 ≤ s .regions
+  pub few-regions : s .regions ≤ 8
+  pub few-precondition : s .precondition ≤ 16
+  pub few-postcondition : s .postcondition ≤ 16
+  pub some-memory : 1 ≤ s .memory
+  pub small-memory : s .memory ≤ 16384
+
+module _ (bytes : List ℕ) where
+  byte-range : (at least most : ℕ) → Gives (λ m. (least ≤ m) × (m ≤ most)) (sizeByte bytes at least most)
+  unfolding sizeByte
+  byte-range at least most = gives-then (gives-any (policyField bytes (byteAt bytes (length bytes) at))) λ n _. in-range at least most n
+
+  memory-range : Gives (λ m. (1 ≤ m) × (m ≤ 16384)) (memoryField bytes)
+  unfolding memoryField
+  memory-range = gives-then (gives-any (policyField bytes (wordAt bytes (length bytes) 4))) λ n _. in-range 4 1 16384 n
+
+  pub sized : Gives Sized (sizesOf bytes)
+  unfolding sizesBy
+  sized = rw (by-fields bytes)
+      (gives-then (byte-range 0 1 8) λ regions r.
+      gives-then (byte-range 1 0 16) λ pre p.
+      gives-then (byte-range 2 0 16) λ post q.
+      gives-then (byte-range 3 0 0) λ _ _.
+      gives-then memory-range λ memory m.
+      gives-then (gives-any (policyField bytes (wordAt bytes (length bytes) 8))) λ limit _.
+      gives (record { some-regions = r .0; few-regions = r .1; few-precondition = p .1; few-postcondition = q .1; some-memory = m .0; small-memory = m .1 }))

@@ -15,6 +15,7 @@ use Rattle.policy.specs.declared.FieldAnswer.the-variants as field
 use Rattle.policy.specs.declared.SizesAnswer.{SizesAnswer}
 use Rattle.policy.specs.declared.SizesAnswer.the-variants as sizes
 
+-- what the answer on a field says, and on the sizes
 unfoldable pub fieldResult : FieldAnswer → Result Refusal ℕ
 fieldResult (field.Passed n) = value n
 fieldResult (field.Refused r) = stop r

@@ -1,4 +1,5 @@
 // The policy: checks 3 to 6, in reading order.
+use expressions::Reading;
 use model::Refusal;
 use model::Region;
 use model::Sizes;
@@ -8,16 +9,54 @@ ghost use lib.ListN.{length};
 ghost use Rattle.model.specs.Policy.{sizesOf, regionAt, regionFits, regionsFrom};
 ghost use Rattle.policy.specs.Sizes.{fieldResult, sizesResult, inRange, sizeByte, memoryField};
 ghost use Rattle.policy.specs.Regions.{regionsResult};
+ghost use Rattle.policy.specs.Conditions.{ConditionReads, ConditionsRead};
+ghost use Rattle.policy.specs.Policy.{PolicyReads};
+
+// The policy passed, or why it is refused.
+pub enum PolicyAnswer {
+    Passed,
+    Refused(Refusal),
+}
+
+// A policy that passed checks 3 to 6. Its regions are the first `count`. Each condition is so many atoms from a position of the policy's bytes on.
+pub struct Policy {
+    pub memory: u32,
+    pub limit: u32,
+    pub count: usize,
+    pub regions: [Region; 8],
+    pub precondition: usize,
+    pub precondition_atoms: usize,
+    pub postcondition: usize,
+    pub postcondition_atoms: usize,
+}
+
+// The answer on a policy, and the policy where it passed.
+pub struct PolicyRead {
+    pub answer: PolicyAnswer,
+    pub policy: Policy,
+}
 
 // A field of the sizes, or why the policy is refused.
-pub enum FieldAnswer {
+enum FieldAnswer {
     Passed(u32),
     Refused(Refusal),
 }
 
 // The sizes, or why the policy is refused.
-pub enum SizesAnswer {
+enum SizesAnswer {
     Passed(Sizes),
+    Refused(Refusal),
+}
+
+// The answer on the regions, and the array that holds them.
+struct RegionsRead {
+    pub answer: PolicyAnswer,
+    pub regions: [Region; 8],
+}
+
+// A position among the atoms, or why the policy is refused.
+enum ConditionAnswer {
+    Passed(usize),
     Refused(Refusal),
 }
 
@@ -52,7 +91,7 @@ fn memory_field(bytes: &[u8]) -> FieldAnswer
 }
 
 // The sizes, field by field in reading order.
-fn sizes(bytes: &[u8]) -> SizesAnswer
+fn read_sizes(bytes: &[u8]) -> SizesAnswer
     ensures { λ r. ⌜ sizesResult r ≡ sizesOf (now (bytes .entry)) ⌝ }
 {
     let regions = match size_byte(bytes, 0, 1, 8) {
@@ -67,10 +106,9 @@ fn sizes(bytes: &[u8]) -> SizesAnswer
         FieldAnswer::Passed(number) => number,
         FieldAnswer::Refused(refusal) => return SizesAnswer::Refused(refusal),
     };
-    let reserved = match size_byte(bytes, 3, 0, 0) {
-        FieldAnswer::Passed(number) => number,
-        FieldAnswer::Refused(refusal) => return SizesAnswer::Refused(refusal),
-    };
+    if let FieldAnswer::Refused(refusal) = size_byte(bytes, 3, 0, 0) {
+        return SizesAnswer::Refused(refusal);
+    }
     let memory = match memory_field(bytes) {
         FieldAnswer::Passed(number) => number,
         FieldAnswer::Refused(refusal) => return SizesAnswer::Refused(refusal),
@@ -85,18 +123,6 @@ fn sizes(bytes: &[u8]) -> SizesAnswer
         memory: memory,
         limit: fields::word(bytes, 8),
     })
-}
-
-// What reading the regions gives: the answer, and the regions, those past the count being 0.
-pub struct RegionsRead {
-    pub answer: PolicyAnswer,
-    pub regions: [Region; 8],
-}
-
-// A policy passed, or why it is refused.
-pub enum PolicyAnswer {
-    Passed,
-    Refused(Refusal),
 }
 
 // Region j of so many.
@@ -122,7 +148,7 @@ fn fits(region: Region, memory: u32) -> bool
 }
 
 // The regions, one by one.
-fn regions(bytes: &[u8], sizes: Sizes) -> RegionsRead
+fn read_regions(bytes: &[u8], sizes: Sizes) -> RegionsRead
     requires { ⌜ (sizes .regions ≤ 8) × (12 + 8 * sizes .regions ≤ length (now bytes)) ⌝ }
     ensures { λ r. ⌜ regionsResult (sizes .regions) r ≡ regionsFrom (now (bytes .entry)) sizes (sizes .regions) 0 ⌝ }
 {
@@ -146,5 +172,96 @@ fn regions(bytes: &[u8], sizes: Sizes) -> RegionsRead
     RegionsRead {
         answer: PolicyAnswer::Passed,
         regions: regions,
+    }
+}
+
+// The position after a condition: so many atoms from a position on.
+fn read_condition(bytes: &[u8], count: usize, at: usize) -> ConditionAnswer
+    requires { ⌜ at ≤ length (now bytes) ⌝ }
+    ensures { λ r. ⌜ ConditionReads (now (bytes .entry)) count at r ⌝ }
+{
+    match expressions::atoms(bytes, bytes.len(), 16, count, at) {
+        Reading::Next(next) => ConditionAnswer::Passed(next),
+        Reading::Missing => ConditionAnswer::Refused(Refusal::PolicyLength(bytes.len())),
+        Reading::Fault(place) => ConditionAnswer::Refused(Refusal::PolicyExpression(place)),
+    }
+}
+
+// Where the postcondition's atoms start, if both conditions are read and nothing stands after them.
+fn read_conditions(bytes: &[u8], sizes: Sizes, start: usize) -> ConditionAnswer
+    requires { ⌜ start ≤ length (now bytes) ⌝ }
+    ensures { λ r. ⌜ ConditionsRead (now (bytes .entry)) sizes start r ⌝ }
+{
+    let postcondition = match read_condition(bytes, sizes.precondition, start) {
+        ConditionAnswer::Passed(next) => next,
+        ConditionAnswer::Refused(refusal) => return ConditionAnswer::Refused(refusal),
+    };
+    let end = match read_condition(bytes, sizes.postcondition, postcondition) {
+        ConditionAnswer::Passed(next) => next,
+        ConditionAnswer::Refused(refusal) => return ConditionAnswer::Refused(refusal),
+    };
+    if end != bytes.len() {
+        return ConditionAnswer::Refused(Refusal::PolicyLength(end));
+    }
+    ConditionAnswer::Passed(postcondition)
+}
+
+// The answer of a policy that is refused.
+fn refused(refusal: Refusal) -> PolicyRead
+    ensures { λ r. ⌜ r .answer ≡ PolicyAnswer.Refused refusal ⌝ }
+{
+    PolicyRead {
+        answer: PolicyAnswer::Refused(refusal),
+        policy: Policy {
+            memory: 0,
+            limit: 0,
+            count: 0,
+            regions: [Region {
+                base: 0,
+                size: 0,
+                rights: 0,
+            }; 8],
+            precondition: 0,
+            precondition_atoms: 0,
+            postcondition: 0,
+            postcondition_atoms: 0,
+        },
+    }
+}
+
+// The policy, with checks 3 to 6 in reading order.
+pub fn read_policy(bytes: &[u8]) -> PolicyRead
+    ensures { λ r. ⌜ PolicyReads (now (bytes .entry)) r ⌝ }
+{
+    let sizes = match read_sizes(bytes) {
+        SizesAnswer::Passed(sizes) => sizes,
+        SizesAnswer::Refused(refusal) => return refused(refusal),
+    };
+    let start = 12 + 8 * sizes.regions;
+    if bytes.len() < start {
+        return refused(Refusal::PolicyLength(bytes.len()));
+    }
+    let read = read_regions(bytes, sizes);
+    let answer = read.answer;
+    if let PolicyAnswer::Refused(refusal) = answer {
+        return refused(refusal);
+    }
+    let postcondition = match read_conditions(bytes, sizes, start) {
+        ConditionAnswer::Passed(postcondition) => postcondition,
+        ConditionAnswer::Refused(refusal) => return refused(refusal),
+    };
+    let regions = read.regions;
+    PolicyRead {
+        answer: PolicyAnswer::Passed,
+        policy: Policy {
+            memory: sizes.memory,
+            limit: sizes.limit,
+            count: sizes.regions,
+            regions: regions,
+            precondition: start,
+            precondition_atoms: sizes.precondition,
+            postcondition: postcondition,
+            postcondition_atoms: sizes.postcondition,
+        },
     }
 }

@@ -1,25 +1,19 @@
-use Rattle.model.specs.Policy.{regionFits}
+-- `policy::fits` meets its contract: the tests are those of the definition, over whole numbers. Assumes nothing.
 use mathlib.Core.Path.{refl}
-use native.Mathlib.Omega.{arith}
 use borrow.Author.Needs.{needs}
+use Rattle.model.specs.Policy.{regionFits}
 use Rattle.policy.proofs.fits.Statement.{statement}
 use Rattle.policy.proofs.fits.Tie as tie
-use Rattle.policy.proofs.fits.Reads as reads
-use Rattle.policy.proofs.fits.Lts as lts
 
--- src/lib.rt:120:15
 cast-end : tie.Need-cast-end
 cast-end c = search needs
 
--- src/lib.rt:120:36
 cast-end-2 : tie.Need-cast-end-2
 cast-end-2 c = search needs
 
--- src/lib.rt:120:15
 add-end : tie.Need-add-end
 add-end c = search needs
 
--- src/lib.rt:117:1
 returns : tie.Need-returns
 unfolding regionFits
 returns c = refl

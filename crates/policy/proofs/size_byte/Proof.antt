@@ -1,29 +1,22 @@
-use Rattle.policy.proofs.SizesLaws as laws
+-- `policy::size_byte` meets its contract: its two ways out, and a byte fits a word. Assumes nothing.
 use native.Mathlib.Omega.{arith}
 use borrow.Author.Needs.{needs}
+use Rattle.policy.proofs.SizesLaws as laws
 use Rattle.policy.proofs.size_byte.Statement.{statement}
 use Rattle.policy.proofs.size_byte.Tie as tie
-use Rattle.policy.proofs.size_byte.Reads as reads
-use Rattle.policy.proofs.size_byte.Lts as lts
-use Rattle.policy.proofs.in_range.Reads as in-range-reads
 
--- src/lib.rt:36:9
 returns : tie.Need-returns
 returns c = laws.no-byte _ _ _ _ (c .if1 .taken)
 
--- src/lib.rt:38:14
 shared-slice-read-in-range : tie.Need-shared-slice-read-in-range
 shared-slice-read-in-range c = search needs
 
--- src/lib.rt:38:14
 cast-in-range : tie.Need-cast-in-range
 cast-in-range c = omega (arith, c .shared-slice-known2 .given (c .before .before .before .args .at))
 
--- src/lib.rt:38:5
 in-range-requires : tie.Need-in-range-requires
 in-range-requires c κs = search needs
 
--- src/lib.rt:32:1
 returns-2 : tie.Need-returns-2
 returns-2 c = laws.a-byte _ _ _ _ _ (c .before .before .if1 .left) (c .in-range .ensures)
 
