@@ -19,23 +19,27 @@ use Rattle.terms.specs.declared.Node.{Node}
 use Rattle.terms.specs.declared.Node.the-variants.{Constant, Variable, Sum, Difference}
 use Rattle.terms.proofs.Frames.{same-refl, same-within, same-trans}
 use Rattle.terms.proofs.Table.{node-order, node-built, part, term-same, formed-same}
-use Rattle.linear.specs.Area.{constantWord, areaWords, formAt, signed, Bounded, Accumulated, Comparable, allZero, Taken, Emptied}
+use Rattle.linear.specs.Area.{constantWord, areaWords, formAt, signed, Bounded, Accumulated, Cleared, Comparable, allZero, Taken, Emptied}
 use Rattle.linear.specs.Comparison.{comparisonOf}
 use Rattle.linear.proofs.Forms.{signed-zero, constant-here, constant-else, variable-here, variable-else, word-sum, word-difference, zeros-same-form, zero-beyond, same-form-refl}
 
--- ---- the table above the area is kept
-module _ {ws us : List ℕ} {n : Bool} {t : Term} (a : Accumulated ws us n t) {i : ℕ} (f : Formed ws (suc i)) where
-  table-kept : Same tableBase (place (suc i)) ws us
-  table-kept = same-within tableBase (place (suc i)) (omega arith) (omega (arith, f .room)) (a .above)
+-- ---- words that keep the area, or the table
+pub cleared-same : {ws us : List ℕ} → Same 0 areaWords ws us → Cleared ws → Cleared us
+cleared-same s c = record { word = λ k h. s .word k (omega arith) h ∙ c .word k h }
 
-  pub term-kept : termAt us i ≡ termAt ws i
-  term-kept = term-same (suc i) table-kept i (omega arith)
+pub bounded-same : {ws us : List ℕ} {i b : ℕ} → Same tableBase (place (suc i)) ws us → length us ≡ length ws → Bounded ws i b → Bounded us i b
+bounded-same {ws} {us} {i} s e h = record { formed = formed-same (suc i) s e (h .formed); within = rw (term-same (suc i) s i (omega arith)) (h .within) }
 
-  pub formed-kept : Formed us (suc i)
-  formed-kept = formed-same (suc i) table-kept (a .long) f
+-- accumulating keeps the table
+module _ {ws us : List ℕ} {n : Bool} {t : Term} (a : Accumulated ws us n t) {i : ℕ} where
+  table-kept : Formed ws (suc i) → Same tableBase (place (suc i)) ws us
+  table-kept f = same-within tableBase (place (suc i)) (omega arith) (omega (arith, f .room)) (a .above)
 
-pub bounded-kept : {ws us : List ℕ} {n : Bool} {t : Term} {i b : ℕ} → Accumulated ws us n t → Bounded ws i b → Bounded us i b
-bounded-kept a h = record { formed = formed-kept a (h .formed); within = rw (term-kept a (h .formed)) (h .within) }
+  term-kept : Formed ws (suc i) → termAt us i ≡ termAt ws i
+  term-kept f = term-same (suc i) (table-kept f) i (omega arith)
+
+  pub bounded-kept : {b : ℕ} → Bounded ws i b → Bounded us i b
+  bounded-kept h = bounded-same (table-kept (h .formed)) (a .long) h
 
 pub bounded-more : {ws : List ℕ} {i b : ℕ} (c : ℕ) → b ≤ c → Bounded ws i b → Bounded ws i c
 bounded-more c l h = record { formed = h .formed; within = omega (arith, h .within) }
