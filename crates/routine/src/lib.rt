@@ -1,0 +1,2 @@
+// The package: header, proof section, instructions.
+pub mod instructions;
