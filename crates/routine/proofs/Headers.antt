@@ -11,7 +11,8 @@ use lib.Dec.{leb, eqb}
 use borrow.Author.Tests.{le-leb, lt-leb, eq-eqb, ne-eqb, leb-true, not-true, not-false}
 use Rattle.model.specs.Result.{stop, value, _>>=_, check}
 use Rattle.model.specs.Word.{le16, le32}
-use Rattle.model.specs.Package.{proofStart, readHeader, proofSection}
+use Rattle.model.specs.Refusal.{numberOf, placeOf}
+use Rattle.model.specs.Package.{proofStart, readHeader, proofSection, finderAnswer}
 use Rattle.model.specs.declared.Header.{Header}
 use Rattle.model.specs.declared.Refusal.{Refusal}
 use Rattle.model.specs.declared.Refusal.the-variants.{BadHeader}
@@ -84,3 +85,12 @@ module _ {bytes : List ℕ} {r : HeaderAnswer} (a : HeaderRead bytes r) where
 
   pub proof-inside : {h : Header} → r ≡ Passed h → proofStart h ≤ length bytes
   proof-inside e = let p = passed a e .1 in omega arith
+
+  -- the companion answer
+  pub found-whole : {h : Header} → r ≡ Passed h → record { number = 0; place = 0 } ≡ finderAnswer bytes
+  unfolding finderAnswer
+  found-whole e = rw (passed a e .0, finderAnswer)
+
+  pub found-refused : {x : Refusal} (number place : ℕ) → r ≡ Refused x → number ≡ numberOf x → place ≡ placeOf x → record { number = number; place = place } ≡ finderAnswer bytes
+  unfolding finderAnswer
+  found-refused number place e en ep = rw (stopped a e, en, ep, finderAnswer)

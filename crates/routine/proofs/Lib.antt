@@ -1,2 +1,4 @@
+pub mod Results
 pub mod Headers
 pub mod Decoding
+pub mod Codes

@@ -21,3 +21,20 @@ pub fn find_proof(bytes: &[u8]) -> &[u8]
         HeaderAnswer::Refused(_) => &bytes[..0],
     }
 }
+
+// The finder's companion answer: 7 and its place where check 7 refuses, otherwise 0 and 0.
+pub fn find_answer(bytes: &[u8]) -> Finding
+    ensures { λ r. ⌜ r ≡ finderAnswer (now (bytes .entry)) ⌝ }
+{
+    let answer = header::read_header(bytes);
+    match answer {
+        HeaderAnswer::Passed(_) => Finding {
+            number: 0,
+            place: 0,
+        },
+        HeaderAnswer::Refused(refusal) => Finding {
+            number: refusals::number(refusal),
+            place: refusals::place(refusal),
+        },
+    }
+}
