@@ -5,7 +5,7 @@ use mathlib.Core.Option.{Option, none, some}
 use mathlib.Core.List.{List, [], _∷_, _++_, append-assoc, append-nil}
 use native.Mathlib.Omega.{arith}
 use native.Mathlib.Numerals.{add-one}
-use Prim.Native.Nat.{ℕ, suc, _+_, _-_, _*_, _≤_, _<_}
+use Prim.Native.Nat.{ℕ, suc, _+_, _-_, _*_, _^_, _≤_, _<_}
 use lib.ListN.{length, getD, take, set, replicate, length-set, length-replicate, getD-replicate}
 use native.Mathlib.Decide.{ℕ-discrete}
 use types.Run.{OneOf, miss}
@@ -74,9 +74,9 @@ module _ (bytes : List ℕ) (h : Header) (index i : ℕ) (ei : i ≡ le32 bytes 
     unfolding instructionResult FormedIfPassed instructionAt _>>=_ stopAs check
     outside t = record { is = rw (← ei, decoded _ _ (sym e ∙ er), ← t, instructionAt); formed = tt }
 
-    pub inside : true ≡ targetInside (h .instructions) x → InstructionRead bytes h index (Passed x)
+    pub inside : i < 2 ^ 32 → true ≡ targetInside (h .instructions) x → InstructionRead bytes h index (Passed x)
     unfolding instructionResult FormedIfPassed instructionAt _>>=_ stopAs check
-    inside t = record { is = rw (← ei, decoded _ _ (sym e ∙ er), ← t, instructionAt); formed = formed _ _ _ _ _ _ x (decoded _ _ (sym e ∙ er)) (sym t) }
+    inside w t = record { is = rw (← ei, decoded _ _ (sym e ∙ er), ← t, instructionAt); formed = formed _ _ _ _ _ w _ x (decoded _ _ (sym e ∙ er)) (sym t) }
 
 -- ---- the whole code
 
@@ -93,7 +93,7 @@ set-formed n code index x all f = record { at = λ k other l. at-line k other (r
 
 module _ (bytes : List ℕ) (h : Header) where
   -- the definition's step, by the instruction at the index
-  step : (left index : ℕ) → instructionsFrom bytes h (suc left) index ≡ (instructionAt bytes h index >>= λ x. instructionsFrom bytes h left (index + 1) >>= λ rest. value (x ∷ rest))
+  pub step : (left index : ℕ) → instructionsFrom bytes h (suc left) index ≡ (instructionAt bytes h index >>= λ x. instructionsFrom bytes h left (index + 1) >>= λ rest. value (x ∷ rest))
   unfolding instructionsFrom instructionAt _>>=_
   step left index =
       let rest : Instruction → Result Refusal (List Instruction) = λ x. instructionsFrom bytes h left (index + 1) >>= λ rest. value (x ∷ rest) in

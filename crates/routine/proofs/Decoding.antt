@@ -6,7 +6,7 @@ use mathlib.Core.Option.{none, some}
 use mathlib.Core.List.{List, [], _∷_}
 use native.Mathlib.Decide.{ℕ-discrete}
 use native.Mathlib.Omega.{arith}
-use Prim.Native.Nat.{ℕ, zero, suc, _≤_, _<_, zero-le}
+use Prim.Native.Nat.{ℕ, zero, suc, _^_, _≤_, _<_, zero-le}
 use borrow.Author.Tests.{ltb-true}
 use lib.Dec.{ltb, eqb}
 use lib.ListN.{length, getElem?}
@@ -88,54 +88,55 @@ four p q r s e =
     let g = three p q r (f .0) in
     (g .0, g .1, g .2, f .1)
 
-registers : (d a b : ℕ) (q : Bool) → (ltb d 16 && ltb a 16 && ltb b 16 && q) ≡ true → (d < 16) × (a < 16) × (b < 16)
-registers d a b q t = let r = four _ _ _ _ t in (ltb-true d 16 (r .0), ltb-true a 16 (r .1), ltb-true b 16 (r .2))
+-- ---- what is decoded is formed, if the immediate is a word and a jump's target is inside
 
-two-registers : (d a : ℕ) (q : Bool) → (ltb d 16 && ltb a 16 && q) ≡ true → (d < 16) × (a < 16)
-two-registers d a q t = let r = three _ _ _ t in (ltb-true d 16 (r .0), ltb-true a 16 (r .1))
+module _ (n d a b i : ℕ) (w : i < 2 ^ 32) where
+  -- what the tests of the rows give
+  three-registers : (q : Bool) → (ltb d 16 && ltb a 16 && ltb b 16 && q) ≡ true → (d < 16) × (a < 16) × (b < 16)
+  three-registers q t = let r = four _ _ _ _ t in (ltb-true d 16 (r .0), ltb-true a 16 (r .1), ltb-true b 16 (r .2))
 
--- ---- what is decoded has registers below 16, and a jump whose target is inside goes below n
+  two-registers : (q : Bool) → (ltb d 16 && ltb a 16 && q) ≡ true → (d < 16) × (a < 16) × (i < 2 ^ 32)
+  two-registers q t = let r = three _ _ _ t in (ltb-true d 16 (r .0), ltb-true a 16 (r .1), w)
 
-module _ (n : ℕ) where
-  -- a row whose test gives what is asked of its instruction
-  formed-row : (t : Bool) (I x : Instruction) → (t ≡ true → targetInside n I ≡ true → Formed n I) → provided t I ≡ value x → targetInside n x ≡ true → Formed n x
+  branch : (eqb d 0 && ltb a 16 && ltb b 16) ≡ true → ltb i n ≡ true → (a < 16) × (b < 16) × (i < n)
+  branch t z = let r = three (eqb d 0) (ltb a 16) (ltb b 16) t in (ltb-true a 16 (r .1), ltb-true b 16 (r .2), ltb-true i n z)
+
+  abbrev FormedBy : (ℕ → ℕ → ℕ → ℕ → Fit Instruction) → Type 0
+  FormedBy f = (x : Instruction) → f d a b i ≡ value x → targetInside n x ≡ true → Formed n x
+
+  -- a row with this test and this instruction
+  row : (t : Bool) (I : Instruction) → (t ≡ true → targetInside n I ≡ true → Formed n I) → FormedBy (λ d a b i. provided t I)
   unfolding provided _>>=_ check
-  formed-row true I x f e inside = let p : I ≡ x = cc in subst (λ (y : Instruction). targetInside n y ≡ true → Formed n y) p (f refl) inside
-  formed-row false I x f e inside = let z : _≡_ {A = ℕ} 0 1 = cc in absurd (omega arith)
-
-  branch : (d a b i : ℕ) → (eqb d 0 && ltb a 16 && ltb b 16) ≡ true → ltb i n ≡ true → (a < 16) × (b < 16) × (i < n)
-  branch d a b i t z = let r = three (eqb d 0) (ltb a 16) (ltb b 16) t in (ltb-true a 16 (r .1), ltb-true b 16 (r .2), ltb-true i n z)
-
-  abbrev FormedRow : (ℕ → ℕ → ℕ → ℕ → Fit Instruction) → Type 0
-  FormedRow f = (d a b i : ℕ) (x : Instruction) → f d a b i ≡ value x → targetInside n x ≡ true → Formed n x
+  row true I f x e inside = let p : I ≡ x = cc in subst (λ (y : Instruction). targetInside n y ≡ true → Formed n y) p (f refl) inside
+  row false I f x e inside = let z : _≡_ {A = ℕ} 0 1 = cc in absurd (omega arith)
 
   infixr 20 _then_
   data EachFormed : List (ℕ → ℕ → ℕ → ℕ → Fit Instruction) → Type 0 where
     done : EachFormed []
-    _then_ : {f : ℕ → ℕ → ℕ → ℕ → Fit Instruction} {fs : List (ℕ → ℕ → ℕ → ℕ → Fit Instruction)} → FormedRow f → EachFormed fs → EachFormed (f ∷ fs)
+    _then_ : {f : ℕ → ℕ → ℕ → ℕ → Fit Instruction} {fs : List (ℕ → ℕ → ℕ → ℕ → Fit Instruction)} → FormedBy f → EachFormed fs → EachFormed (f ∷ fs)
 
   -- the rows of the table, in its order
   each-formed : EachFormed operations
   unfolding targetInside targetOf Formed
   each-formed =
-      (λ d a b i x. formed-row _ (Set d i) x (λ t z. ltb-true d 16 (three _ _ _ t .0)))
-      then (λ d a b i x. formed-row _ (Add d a b) x (λ t z. registers d a b _ t))
-      then (λ d a b i x. formed-row _ (AddImmediate d a i) x (λ t z. two-registers d a _ t))
-      then (λ d a b i x. formed-row _ (Subtract d a b) x (λ t z. registers d a b _ t))
-      then (λ d a b i x. formed-row _ (Load d a i) x (λ t z. two-registers d a _ t))
-      then (λ d a b i x. formed-row _ (Store d a i) x (λ t z. two-registers d a _ t))
-      then (λ d a b i x. formed-row _ (Jump i) x (λ t z. ltb-true i n z))
-      then (λ d a b i x. formed-row _ (JumpLess a b i) x (λ t z. branch d a b i t z))
-      then (λ d a b i x. formed-row _ (JumpEqual a b i) x (λ t z. branch d a b i t z))
-      then (λ d a b i x. formed-row _ Return x (λ t z. tt))
+      row _ (Set d i) (λ t z. (ltb-true d 16 (three _ _ _ t .0), w))
+      then row _ (Add d a b) (λ t z. three-registers _ t)
+      then row _ (AddImmediate d a i) (λ t z. two-registers _ t)
+      then row _ (Subtract d a b) (λ t z. three-registers _ t)
+      then row _ (Load d a i) (λ t z. two-registers _ t)
+      then row _ (Store d a i) (λ t z. two-registers _ t)
+      then row _ (Jump i) (λ t z. ltb-true i n z)
+      then row _ (JumpLess a b i) (λ t z. branch t z)
+      then row _ (JumpEqual a b i) (λ t z. branch t z)
+      then row _ Return (λ t z. tt)
       then done
 
-  formed-in : (fs : List (ℕ → ℕ → ℕ → ℕ → Fit Instruction)) → EachFormed fs → (op d a b i : ℕ) (x : Instruction) → (found (getElem? fs op) misfit >>= λ f. f d a b i) ≡ value x → targetInside n x ≡ true → Formed n x
+  formed-in : (fs : List (ℕ → ℕ → ℕ → ℕ → Fit Instruction)) → EachFormed fs → (op : ℕ) → FormedBy (λ d a b i. found (getElem? fs op) misfit >>= λ f. f d a b i)
   unfolding _>>=_ found
-  formed-in [] done op d a b i x e z = let y : _≡_ {A = ℕ} 0 1 = cc in absurd (omega arith)
-  formed-in (f ∷ fs) (one then each) zero d a b i x e z = one d a b i x e z
-  formed-in (f ∷ fs) (one then each) (suc op) d a b i x e z = formed-in fs each op d a b i x e z
+  formed-in [] done op x e z = let y : _≡_ {A = ℕ} 0 1 = cc in absurd (omega arith)
+  formed-in (f ∷ fs) (one then each) zero x e z = one x e z
+  formed-in (f ∷ fs) (one then each) (suc op) x e z = formed-in fs each op x e z
 
-  pub formed : (op d a b i : ℕ) (x : Instruction) → decode op d a b i ≡ value x → targetInside n x ≡ true → Formed n x
+  pub formed : (op : ℕ) (x : Instruction) → decode op d a b i ≡ value x → targetInside n x ≡ true → Formed n x
   unfolding decode
-  formed op d a b i x e z = formed-in operations each-formed op d a b i x e z
+  formed op x e z = formed-in operations each-formed op x e z

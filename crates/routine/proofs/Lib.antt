@@ -2,3 +2,4 @@ pub mod Results
 pub mod Headers
 pub mod Decoding
 pub mod Codes
+pub mod Facts

@@ -49,14 +49,14 @@ instructionAt bytes h index = do
   _ ← check (targetInside (h .instructions) instruction) (BadTarget index)
   value instruction
 
--- the registers are below 16, and a jump's target is below n
+-- the registers are below 16, the immediate is a word, and a jump's target is below n
 unfoldable pub Formed : (n : ℕ) → Instruction → Type 0
-Formed n (Set d i) = d < 16
+Formed n (Set d i) = (d < 16) × (i < 2 ^ 32)
 Formed n (Add d a b) = (d < 16) × (a < 16) × (b < 16)
-Formed n (AddImmediate d a i) = (d < 16) × (a < 16)
+Formed n (AddImmediate d a i) = (d < 16) × (a < 16) × (i < 2 ^ 32)
 Formed n (Subtract d a b) = (d < 16) × (a < 16) × (b < 16)
-Formed n (Load d a i) = (d < 16) × (a < 16)
-Formed n (Store d a i) = (d < 16) × (a < 16)
+Formed n (Load d a i) = (d < 16) × (a < 16) × (i < 2 ^ 32)
+Formed n (Store d a i) = (d < 16) × (a < 16) × (i < 2 ^ 32)
 Formed n (Jump i) = i < n
 Formed n (JumpLess a b i) = (a < 16) × (b < 16) × (i < n)
 Formed n (JumpEqual a b i) = (a < 16) × (b < 16) × (i < n)

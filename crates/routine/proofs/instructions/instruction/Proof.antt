@@ -1,3 +1,4 @@
+use native.Mathlib.Omega.{arith}
 use mathlib.Core.Path.{sym, _∙_}
 use Rattle.routine.proofs.Codes.{unknown, inside, outside}
 use borrow.Author.Needs.{needs}
@@ -62,7 +63,7 @@ target-inside-requires : tie.Need-target-inside-requires
 target-inside-requires c κs = search needs
 
 returns-2 : tie.Need-returns-2
-returns-2 c = inside _ _ _ _ (c .before .before .before .before .before .before .before .before .before .before .word .ensures) _ (c .before .before .before .before .before .decode .ensures) _ (c .before .before .before .decoded .given .1) (sym (c .if1 .taken) ∙ c .before .target-inside .ensures)
+returns-2 c = inside _ _ _ _ (c .before .before .before .before .before .before .before .before .before .before .word .ensures) _ (c .before .before .before .before .before .decode .ensures) _ (c .before .before .before .decoded .given .1) (omega arith) (sym (c .if1 .taken) ∙ c .before .target-inside .ensures)
 
 returns-3 : tie.Need-returns-3
 returns-3 c = outside _ _ _ _ (c .before .before .before .before .before .before .before .before .before .before .word .ensures) _ (c .before .before .before .before .before .decode .ensures) _ (c .before .before .before .decoded .given .1) (sym (c .if1 .left) ∙ c .before .target-inside .ensures)
