@@ -2,11 +2,13 @@
 use model::Instruction;
 use model::Outcome;
 use model::Region;
+use routine::instructions::Line;
 ghost use mathlib.Core.Path.{_≡_};
 ghost use mathlib.Core.Bool.{_&&_};
 ghost use Prim.Native.Nat.{_+_, _≤_, _<_};
 ghost use lib.ListN.{length, getD, take, set};
 ghost use Rattle.model.specs.Policy.{covers, someRegion};
+ghost use Rattle.routine.specs.Code.{instructionsOf};
 ghost use Rattle.machine.specs.Right.{grants, permits};
 ghost use Rattle.machine.specs.Step.{InRange, Ready, target, state, Executed};
 ghost use Rattle.machine.specs.Run.{Runnable, Ran};
@@ -199,9 +201,9 @@ fn stopped(number: u32, counter: usize, steps: u32) -> Outcome
     }
 }
 
-// Runs the first `size` instructions from the first on, until a return, an access without the right, a counter at the end, or the end of the budget.
+// Runs the first `size` lines from the first on, until a return, an access without the right, a counter at the end, or the end of the budget.
 pub fn run_code(
-    code: [Instruction; 256],
+    code: [Line; 256],
     size: usize,
     regions: [Region; 8],
     count: usize,
@@ -210,7 +212,7 @@ pub fn run_code(
     budget: u32,
 ) -> Outcome
     requires { ⌜ Runnable code size count (now registers) ⌝ }
-    ensures { λ r. ⌜ Ran (take size code) (take count regions) (now (registers .entry)) (now (memory .entry)) budget r (now (registers .exit)) (now (memory .exit)) ⌝ }
+    ensures { λ r. ⌜ Ran (instructionsOf (take size code)) (take count regions) (now (registers .entry)) (now (memory .entry)) budget r (now (registers .exit)) (now (memory .exit)) ⌝ }
 {
     let mut counter: usize = 0;
     let mut steps: u32 = 0;
@@ -221,7 +223,9 @@ pub fn run_code(
         if size <= counter {
             return stopped(22, counter, steps);
         }
-        let progress = execute(code[counter], counter, regions, count, registers, memory);
+        let line = code[counter];
+        let instruction = line.instruction;
+        let progress = execute(instruction, counter, regions, count, registers, memory);
         match progress {
             Progress::Next(to) => {
                 counter = to;

@@ -41,11 +41,11 @@ same-length-4 c = c .before .before .before .loop .inv .as-long
 returns-2 : tie.Need-returns-2 Inv-loop μ-loop
 returns-2 c = rw (c .stopped2 .ensures) (runs.past _ _ _ _ _ _ _ _ _ _ _ (c .before .before .before .loop .inv) (c .before .before .if1 .left) (c .before .if2 .taken))
 
-mul-execute : tie.Need-mul-execute Inv-loop μ-loop
-mul-execute c = search needs
+mul-line : tie.Need-mul-line Inv-loop μ-loop
+mul-line c = search needs
 
-array-copy-out-execute : tie.Need-array-copy-out-execute Inv-loop μ-loop
-array-copy-out-execute c = search needs
+array-copy-out-line : tie.Need-array-copy-out-line Inv-loop μ-loop
+array-copy-out-line c = search needs
 
 execute-requires : tie.Need-execute-requires Inv-loop μ-loop
 execute-requires c κs = runs.ready _ _ _ _ _ _ _ _ _ _ _ (c .before .before .before .before .before .loop .inv) (c .before .before .before .before .if1 .left) (c .before .before .before .if2 .left) _
@@ -110,8 +110,8 @@ run-code-spec =
     same-length-3
     same-length-4
     returns-2
-    mul-execute
-    array-copy-out-execute
+    mul-line
+    array-copy-out-line
     execute-requires
     enum-known-progress
     add-steps
