@@ -1,2 +1,2 @@
-pub mod Scanning
-pub mod Laws
+pub mod ScanningLaws
+pub mod ReadingLaws

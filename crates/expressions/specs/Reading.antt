@@ -1,21 +1,11 @@
 -- What the readers owe: the answers of the model's definitions, without the terms and atoms read. Assumes nothing.
-use Prim.Native.Nat.{ℕ, _≤_, _<_}
+use Prim.Native.Nat.{ℕ, _≤_}
 use mathlib.Core.Path.{_≡_, refl, sym, _∙_}
-use mathlib.Core.List.{List}
 use native.Mathlib.Omega.{arith}
 use Rattle.model.specs.Result.{Result, stop, value}
 use Rattle.model.specs.Field.{ReadError, missing, fault}
-use Rattle.model.specs.Expression.{Form, Nodes, nodeOf, nodesAt}
-use Rattle.expressions.specs.declared.Scanned.{Scanned}
-use Rattle.expressions.specs.declared.Scanned.the-variants as scanned
 use Rattle.expressions.specs.declared.Reading.{Reading}
 use Rattle.expressions.specs.declared.Reading.the-variants.{Next, Missing, Fault}
-
--- the nodes read, without the term
-unfoldable pub scannedOf : Nodes → Scanned
-scannedOf (value (t, q, left)) = scanned.Nodes q left
-scannedOf (stop missing) = scanned.Missing
-scannedOf (stop (fault p)) = scanned.Fault p
 
 -- what was read, without the value
 unfoldable pub readingOf : {A : Type 0} → Result ReadError (A × ℕ) → Reading
@@ -23,27 +13,11 @@ readingOf (value (a, q)) = Next q
 readingOf (stop missing) = Missing
 readingOf (stop (fault p)) = Fault p
 
--- the next position is no further than the end, and fewer nodes are left than before
-abbrev pub Within : (end left : ℕ) → Scanned → Type 0
-Within end left (scanned.Nodes q left′) = (q ≤ end) × (left′ < left)
-Within end left scanned.Missing = Unit
-Within end left (scanned.Fault p) = Unit
-
 -- the next position is no further than the end
 abbrev pub Inside : (end : ℕ) → Reading → Type 0
 Inside end (Next q) = q ≤ end
 Inside end Missing = Unit
 Inside end (Fault p) = Unit
-
--- what is owed for what stands after a tag of a form that has no operands
-pub record ScansNode (bytes : List ℕ) (end limit : ℕ) (form : Form) (left p : ℕ) (r : Scanned) : Type 0 where
-  pub answer : (operand : (left p : ℕ) → Nodes) → r ≡ scannedOf (nodeOf bytes end limit operand form left p)
-  pub within : Within end left r
-
--- what is owed for an expression of at most `left` nodes, at whatever depth the definition is taken
-pub record Scans (bytes : List ℕ) (end limit left p : ℕ) (r : Scanned) : Type 0 where
-  pub answer : (depth : ℕ) → left ≤ depth → r ≡ scannedOf (nodesAt bytes end limit depth left p)
-  pub within : Within end left r
 
 -- what is owed for an expression, an atom or several
 pub record Reads {A : Type 0} (end : ℕ) (x : Result ReadError (A × ℕ)) (r : Reading) : Type 0 where

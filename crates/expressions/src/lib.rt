@@ -1,16 +1,12 @@
-// The readers of expressions and atoms that only find where they end.
-ghost use mathlib.Core.Path.{_≡_};
-ghost use Prim.Native.Nat.{_≤_, _<_, max};
-ghost use lib.ListN.{length};
-ghost use Rattle.model.specs.Expression.{two-byte-variable, expressionAt, atomAt, atomsAt};
-ghost use Rattle.expressions.specs.Reading.{Scans, ScansNode, Reads};
+// The readers of expressions and atoms that only find where they end. The bytes run to `end`, and variables are below `limit`.
+mod scanning;
 
-// What scanning the nodes of an expression finds: the next position and how many nodes are left then; bytes missing; a fault at a place.
-pub enum Scanned {
-    Nodes { next: usize, left: usize },
-    Missing,
-    Fault(usize),
-}
+use scanning::Scanned;
+ghost use mathlib.Core.Path.{_≡_};
+ghost use Prim.Native.Nat.{_≤_, max};
+ghost use lib.ListN.{length};
+ghost use Rattle.model.specs.Expression.{expressionAt, atomAt, atomsAt};
+ghost use Rattle.expressions.specs.Reading.{Reads};
 
 // What reading finds: where it goes on, or why it stops.
 pub enum Reading {
@@ -19,62 +15,12 @@ pub enum Reading {
     Fault(usize),
 }
 
-// The variable whose tag is at `at`, with `left` nodes left before it.
-fn variable(bytes: &[u8], end: usize, limit: usize, at: usize, left: usize) -> Scanned
-    requires { ⌜ (at < end) × (end ≤ length (now bytes)) × (0 < left) ⌝ }
-    ensures { λ r. ⌜ ScansNode (now (bytes .entry)) end limit two-byte-variable left at r ⌝ }
-{
-    if end - at < 3 {
-        return Scanned::Missing;
-    }
-    if limit <= fields::half(bytes, at + 1) {
-        return Scanned::Fault(at + 1);
-    }
-    Scanned::Nodes {
-        next: at + 3,
-        left: left - 1,
-    }
-}
-
-// The expression at `at`, of at most `left` nodes.
-fn nodes(bytes: &[u8], end: usize, limit: usize, at: usize, left: usize) -> Scanned
-    requires { ⌜ end ≤ length (now bytes) ⌝ }
-    ensures { λ r. ⌜ Scans (now (bytes .entry)) end limit left at r ⌝ }
-{
-    if end <= at {
-        return Scanned::Missing;
-    }
-    if left == 0 {
-        return Scanned::Fault(at);
-    }
-    match bytes[at] {
-        0 => {
-            if end - at < 5 {
-                return Scanned::Missing;
-            }
-            Scanned::Nodes {
-                next: at + 5,
-                left: left - 1,
-            }
-        }
-        1 => variable(bytes, end, limit, at, left),
-        2..=3 => {
-            let first = nodes(bytes, end, limit, at + 1, left - 1);
-            let Scanned::Nodes { next, left: rest } = first else {
-                return first;
-            };
-            nodes(bytes, end, limit, next, rest)
-        }
-        _ => Scanned::Fault(at),
-    }
-}
-
-// An expression at `at`.
+// Where the expression at `at`, of at most 31 nodes, ends.
 pub fn expression(bytes: &[u8], end: usize, limit: usize, at: usize) -> Reading
     requires { ⌜ end ≤ length (now bytes) ⌝ }
     ensures { λ r. ⌜ Reads end (expressionAt (now (bytes .entry)) end limit at) r ⌝ }
 {
-    let scanned = nodes(bytes, end, limit, at, 31);
+    let scanned = scanning::nodes(bytes, end, limit, at, 31);
     match scanned {
         Scanned::Nodes { next, left: _ } => Reading::Next(next),
         Scanned::Missing => Reading::Missing,
@@ -82,7 +28,7 @@ pub fn expression(bytes: &[u8], end: usize, limit: usize, at: usize) -> Reading
     }
 }
 
-// An atom at `at`.
+// Where the atom at `at` ends.
 pub fn atom(bytes: &[u8], end: usize, limit: usize, at: usize) -> Reading
     requires { ⌜ end ≤ length (now bytes) ⌝ }
     ensures { λ r. ⌜ Reads end (atomAt (now (bytes .entry)) end limit at) r ⌝ }
@@ -100,7 +46,7 @@ pub fn atom(bytes: &[u8], end: usize, limit: usize, at: usize) -> Reading
     expression(bytes, end, limit, next)
 }
 
-// So many atoms from `at`, one after the other.
+// Where `count` atoms that follow each other from `at` end.
 pub fn atoms(bytes: &[u8], end: usize, limit: usize, count: usize, at: usize) -> Reading
     requires { ⌜ end ≤ length (now bytes) ⌝ }
     ensures { λ r. ⌜ Reads (max at end) (atomsAt (now (bytes .entry)) end limit count at) r ⌝ }

@@ -1,7 +1,7 @@
 use borrow.Author.Needs.{needs}
 use Rattle.expressions.proofs.atom.Statement.{statement}
 use Rattle.expressions.proofs.atom.Tie as tie
-use Rattle.expressions.proofs.Laws as laws
+use Rattle.expressions.proofs.ReadingLaws as laws
 
 returns : tie.Need-returns
 returns c = laws.atom-missing _ _ _ _ (c .if1 .taken)

@@ -1,5 +1,5 @@
 use borrow.Author.Needs.{needs}
-use Rattle.expressions.proofs.Laws as laws
+use Rattle.expressions.proofs.ReadingLaws as laws
 use Rattle.expressions.proofs.atoms.Statement.{statement}
 use Rattle.expressions.proofs.atoms.Tie as tie
 

@@ -1,7 +1,7 @@
 use borrow.Author.Needs.{needs}
 use Rattle.expressions.proofs.expression.Statement.{statement}
 use Rattle.expressions.proofs.expression.Tie as tie
-use Rattle.expressions.proofs.Laws as laws
+use Rattle.expressions.proofs.ReadingLaws as laws
 
 returns : tie.Need-returns
 returns c = laws.expression-read _ _ _ _ _ _ (c .before .before .before .nodes .ensures) (c .before .scanned .given .1)

@@ -13,13 +13,14 @@ use Rattle.model.specs.Field.{ReadError, missing, fault}
 use Rattle.model.specs.Expression.{comparisons, mostNodes, Nodes, nodesAt, expressionAt, atomAt, atomsAt}
 use Rattle.model.specs.declared.Comparison.{Comparison}
 use Rattle.model.specs.declared.Comparison.the-variants.{Equal, Unequal, Less, AtMost}
-use Rattle.expressions.specs.declared.Scanned.{Scanned}
-use Rattle.expressions.specs.declared.Scanned.the-variants as scanned
+use Rattle.expressions.specs.declared.scanning.Scanned.{Scanned}
+use Rattle.expressions.specs.declared.scanning.Scanned.the-variants as scanned
 use Rattle.expressions.specs.declared.Reading.{Reading}
 use Rattle.expressions.specs.declared.Reading.the-variants.{Next, Missing, Fault}
-use Rattle.expressions.specs.Reading.{scannedOf, readingOf, Within, Inside, Scans, Reads, apart, read-next}
+use Rattle.expressions.specs.Scanning.{scannedOf, Within, Scans}
+use Rattle.expressions.specs.Reading.{readingOf, Inside, Reads, apart, read-next}
 use Rattle.expressions.proofs.Reading.{the-type}
-use Rattle.expressions.proofs.Scanning.{past, byte-missing, byte-there}
+use Rattle.expressions.proofs.ScanningLaws.{past, byte-missing, byte-there}
 
 -- ---- an expression
 

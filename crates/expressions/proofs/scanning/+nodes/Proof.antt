@@ -3,14 +3,15 @@ use native.Mathlib.Omega.{arith}
 use Prim.Native.Nat.{ℕ, _<_}
 use borrow.Fn.Kinds.{In}
 use borrow.Fn.PlainCycle.{Measures, is, falls, and}
-use Rattle.expressions.proofs.nodes.Reads as nodes
-use Rattle.expressions.proofs.nodes.Kinds as nodes-kinds
-use Rattle.expressions.proofs.+nodes.Lts-nodes as nodes-lts
-use Rattle.expressions.proofs.variable.Reads as variable-reads
-use Rattle.expressions.proofs.Scanning as laws
-use Rattle.expressions.proofs.+nodes.{statement}
-use Rattle.expressions.proofs.+nodes.Tie.{close}
+use Rattle.expressions.proofs.scanning.nodes.Reads as nodes
+use Rattle.expressions.proofs.scanning.nodes.Kinds as nodes-kinds
+use Rattle.expressions.proofs.scanning.+nodes.Lts-nodes as nodes-lts
+use Rattle.expressions.proofs.scanning.variable.Reads as variable-reads
+use Rattle.expressions.proofs.ScanningLaws as laws
+use Rattle.expressions.proofs.scanning.+nodes.{statement}
+use Rattle.expressions.proofs.scanning.+nodes.Tie.{close}
 
+-- the measure: the nodes left
 abbrev μ-nodes : Measures 1 nodes-kinds.ps ℕ
 μ-nodes κs a = a .1 .1 .1 .1 .0
 
@@ -33,7 +34,6 @@ pub +nodes-spec : {M : Type 1} → statement M
     (λ c. laws.no-node _ _ _ _ _ (c .before .if1 .left) (c .if2 .taken))
     (λ c. search needs)
     (λ c. search needs)
-    (λ c. laws.short-constant _ _ _ _ _ (c .before .before .before .before .if1 .left) (c .before .before .before .if2 .left) (c .before .match .keys1) (c .if3 .taken))
     (λ c. search needs)
     (λ c. search needs)
     (λ c κs. search needs)
@@ -42,7 +42,8 @@ pub +nodes-spec : {M : Type 1} → statement M
     (λ c κs. search needs)
     (λ c. search needs)
     (λ c. laws.first-stops _ _ _ _ _ (c .before .before .before .before .before .before .if1 .left) (c .before .before .before .before .before .if2 .left) (c .before .before .before .match .rest .0 .1) (c .before .before .before .match .rest .1) (c .before .before .if4 .taken) _ (c .before .nodes .ensures) (c .match2 .keys2))
-    (λ c κs. (omega (arith, c .before .before .before .before .before .before .before .before .before .before .pre .0, laws.rest-less _ _ _ _ _ (c .before .before .before .before .before .before .before .before .if1 .left) (c .before .before .before .before .before .before .before .if2 .left) (c .before .before .before .before .before .match .rest .0 .1) (c .before .before .before .before .before .match .rest .1) (c .before .before .before .before .if4 .taken) _ (c .before .before .before .nodes .ensures) _ _ (c .before .first .given .1)), c .before .before .before .before .before .before .before .before .before .before .pre .1))
+    (λ c κs. (omega (arith, c .before .before .before .before .before .before .before .before .before .before .pre .0, laws.rest-less (c .before .before .before .nodes .ensures) (c .before .first .given .1)), c .before .before .before .before .before .before .before .before .before .before .pre .1))
+    (λ c. laws.short-constant _ _ _ _ _ (c .before .before .before .before .if1 .left) (c .before .before .before .if2 .left) (c .before .match .keys1) (c .if3 .taken))
     (λ c. laws.whole-constant _ _ _ _ _ (c .before .before .before .before .if1 .left) (c .before .before .before .if2 .left) (c .before .match .keys1) (c .if3 .left))
     (λ c. laws.variable-node _ _ _ _ _ (c .before .before .before .before .if1 .left) (c .before .before .before .if2 .left) (c .before .match .keys2) _ (c .variable .ensures))
     (λ c. laws.both _ _ _ _ _ (c .before .before .before .before .before .before .before .before .before .if1 .left) (c .before .before .before .before .before .before .before .before .if2 .left) (c .before .before .before .before .before .before .match .rest .0 .1) (c .before .before .before .before .before .before .match .rest .1) (c .before .before .before .before .before .if4 .taken) _ (c .before .before .before .before .nodes .ensures) _ _ (c .before .before .first .given .1) _ (c .nodes2 .ensures))

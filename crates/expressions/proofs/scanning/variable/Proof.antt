@@ -1,8 +1,8 @@
 use native.Mathlib.Omega.{arith}
 use borrow.Author.Needs.{needs}
-use Rattle.expressions.proofs.variable.Statement.{statement}
-use Rattle.expressions.proofs.variable.Tie as tie
-use Rattle.expressions.proofs.Scanning as laws
+use Rattle.expressions.proofs.scanning.variable.Statement.{statement}
+use Rattle.expressions.proofs.scanning.variable.Tie as tie
+use Rattle.expressions.proofs.ScanningLaws as laws
 
 returns : tie.Need-returns
 returns c = laws.short-variable _ _ _ _ _ (c .before .before .pre .0) (c .if1 .taken)
@@ -16,4 +16,4 @@ returns-3 c = laws.whole-variable _ _ _ _ _ (c .before .before .if1 .left) (omeg
 pub variable-spec : {M : Type 1} → statement M
 variable-spec =
     tie.close
-    (tie.spec (λ c. search needs) returns (λ c. search needs) (λ c κs. search needs) (λ c. search needs) returns-2 (λ c. search needs) (λ c. search needs) returns-3)
+    (tie.spec (λ c. search needs) (λ c. search needs) (λ c κs. search needs) (λ c. search needs) (λ c. search needs) (λ c. search needs) returns returns-2 returns-3)

@@ -14,10 +14,11 @@ use Rattle.model.specs.Word.{le16}
 use Rattle.model.specs.Term.{Term, sum, difference}
 use Rattle.model.specs.Field.{missing, fault, byteAt, halfAt, wordAt}
 use Rattle.model.specs.Expression.{Form, four-byte-constant, two-byte-variable, two-expressions, forms, Nodes, nodeOf, nodesAt}
-use Rattle.expressions.specs.declared.Scanned.{Scanned}
-use Rattle.expressions.specs.declared.Scanned.the-variants.{Nodes as Whole, Missing, Fault}
-use Rattle.expressions.specs.Reading.{scannedOf, Within, ScansNode, Scans, apart}
-use Rattle.expressions.proofs.Scanned.{the-type}
+use Rattle.expressions.specs.declared.scanning.Scanned.{Scanned}
+use Rattle.expressions.specs.declared.scanning.Scanned.the-variants.{Nodes as Whole, Missing, Fault}
+use Rattle.expressions.specs.Scanning.{scannedOf, Within, ScansNode, Scans}
+use Rattle.expressions.specs.Reading.{apart}
+use Rattle.expressions.proofs.scanning.Scanned.{the-type}
 
 -- there is nothing past a list's end
 pub past : {A : Type 0} (l : List A) (i : ℕ) → length l ≤ i → getElem? l i ≡ none
@@ -91,6 +92,10 @@ less-within : (end few left : ℕ) (r : Scanned) → few ≤ left → Within end
 less-within end few left (Whole q l) h w = (w .0, omega arith)
 less-within end few left Missing h w = tt
 less-within end few left (Fault p) h w = tt
+
+-- the second operand has fewer nodes left than the first
+pub rest-less : {bytes : List ℕ} {end limit left p : ℕ} {first : Scanned} {next rest : ℕ} → Scans bytes end limit left p first → first ≡ Whole next rest → rest < left
+rest-less {end = end} {left = left} {next = next} {rest = rest} F e = let w : Within end left (Whole next rest) = rw e at (F .within) in w .1
 
 module _ (bytes : List ℕ) (end limit left at : ℕ) where
   -- ---- the ways out of `variable`
@@ -190,14 +195,12 @@ module _ (bytes : List ℕ) (end limit left at : ℕ) where
         within = stopped-within end left first t;
       }
 
-      module _ (next rest : ℕ) (e : first ≡ Whole next rest) where
-        pub rest-less : rest < left
-        rest-less = let w : Within end (left - 1) (Whole next rest) = rw e at (F .within) in omega arith
-
-        pub both : (second : Scanned) → Scans bytes end limit rest next second → Scans bytes end limit left at second
-        both second S = record {
-          answer = of-pair second (λ depth l operation.
-              S .answer depth (omega (arith, rest-less))
-              ∙ pair-read operation (operandAt depth (left - 1) (at + 1)) (operandAt depth) next rest (sym e ∙ F .answer depth (omega arith)));
-          within = less-within end rest left second (omega (arith, rest-less)) (S .within);
-        }
+      pub both : (next rest : ℕ) → first ≡ Whole next rest → (second : Scanned) → Scans bytes end limit rest next second → Scans bytes end limit left at second
+      both next rest e second S =
+          let l = rest-less F e in
+          record {
+            answer = of-pair second (λ depth d operation.
+                S .answer depth (omega arith)
+                ∙ pair-read operation (operandAt depth (left - 1) (at + 1)) (operandAt depth) next rest (sym e ∙ F .answer depth (omega arith)));
+            within = less-within end rest left second (omega arith) (S .within);
+          }
