@@ -1,0 +1,50 @@
+use Prim.Native.Nat.{_-_}
+use Rattle.annotations.proofs.Searches.{Searching, start, more, found, nothing}
+use borrow.Author.Needs.{needs}
+use Rattle.annotations.proofs.search.position.Statement.{statement}
+use Rattle.annotations.proofs.search.position.Tie as tie
+
+abbrev Inv-loop : tie.InvT-loop
+Inv-loop indexes count index at₀ at = Searching indexes count index at
+
+abbrev μ-loop : tie.MeasureT-loop
+μ-loop indexes count index at₀ at = count - at
+
+loop-holds : tie.Need-loop-holds Inv-loop μ-loop
+loop-holds c = start _ _ _ (c .pre)
+
+mul-if2 : tie.Need-mul-if2 Inv-loop μ-loop
+mul-if2 c = search needs
+
+shared-slice-read-if2 : tie.Need-shared-slice-read-if2 Inv-loop μ-loop
+shared-slice-read-if2 c = search needs
+
+add-at : tie.Need-add-at Inv-loop μ-loop
+add-at c = search needs
+
+loop-less : tie.Need-loop-less Inv-loop μ-loop
+loop-less c = search needs
+
+loop-again : tie.Need-loop-again Inv-loop μ-loop
+loop-again c = more _ _ _ (c .before .before .before .before .pre) _ (c .before .before .before .loop .inv) (c .before .before .if1 .left) (c .if2 .left)
+
+returns : tie.Need-returns Inv-loop μ-loop
+returns c = nothing _ _ _ (c .before .before .pre) _ (c .before .loop .inv) (c .if1 .taken)
+
+returns-2 : tie.Need-returns-2 Inv-loop μ-loop
+returns-2 c = found _ _ _ (c .before .before .before .before .pre) _ (c .before .before .before .loop .inv) (c .before .before .if1 .left) (c .if2 .taken)
+
+pub position-spec : {M : Type 1} → statement M
+position-spec =
+    tie.close
+    (tie.spec
+    Inv-loop
+    μ-loop
+    loop-holds
+    mul-if2
+    shared-slice-read-if2
+    add-at
+    loop-less
+    loop-again
+    returns
+    returns-2)

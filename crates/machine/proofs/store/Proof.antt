@@ -1,0 +1,45 @@
+use Rattle.machine.proofs.Steps as steps
+use borrow.Author.Needs.{needs}
+use Rattle.machine.proofs.store.Statement.{statement}
+use Rattle.machine.proofs.store.Tie as tie
+
+word-requires : tie.Need-word-requires
+word-requires c κs = search needs
+
+add-requires : tie.Need-add-requires
+add-requires c κs = search needs
+
+wide-requires : tie.Need-wide-requires
+wide-requires c κs = search needs
+
+writable-requires : tie.Need-writable-requires
+writable-requires c κs = search needs
+
+word-requires-2 : tie.Need-word-requires-2
+word-requires-2 c κs = search needs
+
+put-requires : tie.Need-put-requires
+put-requires c κs = (steps.inside _ _ _ _ _ (c .before .before .before .writable .ensures) (c .before .before .if1 .taken), c .before .before .before .before .before .before .before .before .before .pre .low)
+
+same-length : tie.Need-same-length
+same-length c = search needs
+
+returns : tie.Need-returns
+returns c = steps.stores _ _ _ _ _ _ _ _ _ _ (c .before .before .before .before .before .before .before .before .before .word .ensures) (c .before .before .before .before .before .before .before .before .add .ensures) (c .before .before .before .before .before .before .before .wide .ensures) _ (c .before .before .before .before .before .before .writable .ensures) (c .before .before .before .before .before .if1 .taken) _ (c .before .before .before .before .word2 .ensures) _ _ (c .before .before .put .ensures)
+
+returns-2 : tie.Need-returns-2
+returns-2 c = steps.refuses-store _ _ _ _ _ _ _ _ _ _ (c .before .before .before .before .word .ensures) (c .before .before .before .add .ensures) (c .before .before .wide .ensures) _ (c .before .writable .ensures) (c .if1 .left)
+
+pub store-spec : {M : Type 1} → statement M
+store-spec =
+    tie.close
+    (tie.spec
+    word-requires
+    add-requires
+    wide-requires
+    writable-requires
+    word-requires-2
+    put-requires
+    same-length
+    returns
+    returns-2)

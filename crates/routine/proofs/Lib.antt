@@ -1,0 +1,5 @@
+pub mod Results
+pub mod Headers
+pub mod Decoding
+pub mod Codes
+pub mod Facts

@@ -1,0 +1,54 @@
+use Prim.Native.Nat.{_-_}
+use Rattle.routine.proofs.Codes.{Checking, check-start, check-more, check-refused, check-done}
+use borrow.Author.Needs.{needs}
+use Rattle.routine.proofs.instructions.check_code.Statement.{statement}
+use Rattle.routine.proofs.instructions.check_code.Tie as tie
+
+abbrev Inv-loop : tie.InvT-loop
+Inv-loop bytes header index₀ index = Checking bytes header index
+
+abbrev μ-loop : tie.MeasureT-loop
+μ-loop bytes header index₀ index = header .instructions - index
+
+loop-holds : tie.Need-loop-holds Inv-loop μ-loop
+loop-holds c = check-start _ _
+
+instruction-requires : tie.Need-instruction-requires Inv-loop μ-loop
+instruction-requires c κs = search needs
+
+enum-known-answer : tie.Need-enum-known-answer Inv-loop μ-loop
+enum-known-answer c = search needs
+
+returns : tie.Need-returns Inv-loop μ-loop
+returns c = check-refused _ _ _ (c .before .before .before .before .before .before .loop .inv) _ (c .before .before .before .instruction .ensures) (c .before .before .before .before .if1 .taken) _ (c .before .answer .given .1)
+
+enum-told : tie.Need-enum-told Inv-loop μ-loop
+enum-told c = search needs
+
+add-index : tie.Need-add-index Inv-loop μ-loop
+add-index c = search needs
+
+loop-less : tie.Need-loop-less Inv-loop μ-loop
+loop-less c = search needs
+
+loop-again : tie.Need-loop-again Inv-loop μ-loop
+loop-again c = check-more _ _ _ (c .before .before .before .before .before .loop .inv) _ (c .before .before .instruction .ensures) (c .before .before .before .if1 .taken) _ (c .enum-told .given .1)
+
+returns-2 : tie.Need-returns-2 Inv-loop μ-loop
+returns-2 c = check-done _ _ _ (c .before .before .loop .inv) (c .if1 .left)
+
+pub check-code-spec : {M : Type 1} → statement M
+check-code-spec =
+    tie.close
+    (tie.spec
+    Inv-loop
+    μ-loop
+    loop-holds
+    instruction-requires
+    enum-known-answer
+    returns
+    enum-told
+    add-index
+    loop-less
+    loop-again
+    returns-2)
