@@ -1,7 +1,7 @@
 // What the programs share: whole files read into lent buffers, and answers printed.
 use libc::STDOUT_FILENO;
 ghost use mathlib.Core.Path.{_≡_};
-ghost use Prim.Native.Nat.{_+_, _*_, _≤_};
+ghost use Prim.Native.Nat.{ℕ, _+_, _*_, _≤_, _<_};
 ghost use lib.ListN.{length};
 ghost use Rattle.console.specs.Words.{wordsFrom};
 ghost use Rattle.console.specs.Loaded.{Within};
@@ -48,7 +48,7 @@ pub fn load(name: &[u8], buf: &mut [u8]) -> Loaded
 
 // Fills a slice with the words that stand in the bytes from word `first` on.
 pub fn words(bytes: &[u8], first: usize, out: &mut [u32])
-    requires { ⌜ 4 * first + 4 * length (now out) ≤ length (now bytes) ⌝ }
+    requires { ⌜ ((i : ℕ) → i < length (now out) → 4 * (first + i) + 4 ≤ length (now bytes)) ⌝ }
     ensures { λ _. ⌜ now (out .exit) ≡ wordsFrom (now (bytes .entry)) first (length (now (out .entry))) ⌝ }
 {
     let mut i: usize = 0;

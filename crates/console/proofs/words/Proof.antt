@@ -17,13 +17,13 @@ loop-holds : tie.Need-loop-holds Inv-loop μ-loop
 loop-holds c = filling.begin _ _ _
 
 add-word : tie.Need-add-word Inv-loop μ-loop
-add-word c = search needs
+add-word c = omega (arith, c .before .before .before .before .pre (c .before .loop .i) (omega (arith, c .loop-test .taken, c .before .loop .inv .long)))
 
 mul-word : tie.Need-mul-word Inv-loop μ-loop
-mul-word c = search needs
+mul-word c = omega (arith, c .before .before .before .before .pre (c .before .loop .i) (omega (arith, c .loop-test .taken, c .before .loop .inv .long)))
 
 word-requires : tie.Need-word-requires Inv-loop μ-loop
-word-requires c κs = search needs
+word-requires c κs = omega (arith, c .before .before .before .before .pre (c .before .loop .i) (omega (arith, c .loop-test .taken, c .before .loop .inv .long)))
 
 mul-out : tie.Need-mul-out Inv-loop μ-loop
 mul-out c = search needs
