@@ -1,0 +1,5 @@
+pub mod Results
+pub mod SizesLaws
+pub mod RegionsLaws
+pub mod ConditionsLaws
+pub mod PolicyLaws
