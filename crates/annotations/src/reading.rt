@@ -9,7 +9,7 @@ ghost use lib.ListN.{length};
 ghost use Rattle.model.specs.Package.{proofStart};
 ghost use Rattle.expressions.specs.Reading.{Reads};
 ghost use Rattle.routine.specs.Headers.{Fits};
-ghost use Rattle.annotations.specs.Annotations.{bodyAt, AnnotationRead};
+ghost use Rattle.annotations.specs.Annotations.{bodyAt, AnnotationRead, AnnotationsMet};
 
 // A byte as a count.
 fn count_of(x: u8) -> usize
@@ -70,4 +70,45 @@ pub fn annotation(bytes: &[u8], header: Header, lowest: usize, at: usize) -> Ann
         Reading::Missing => AnnotationAnswer::Refused(Refusal::AnnotationBytes(end)),
         Reading::Fault(place) => AnnotationAnswer::Refused(Refusal::AnnotationBytes(place)),
     }
+}
+
+pub enum AnnotationsAnswer {
+    Passed,
+    Refused(Refusal),
+}
+
+// The annotations in turn, or what check 10 or 11 refuses: their indexes and places go into the lent tables.
+pub fn read_annotations(
+    bytes: &[u8],
+    header: Header,
+    indexes: &mut [u32],
+    places: &mut [u32],
+) -> AnnotationsAnswer
+    requires { ⌜ Fits (now bytes) header ⌝ }
+    requires { ⌜ (length (now indexes) ≡ 64) × (length (now places) ≡ 64) ⌝ }
+    ensures { λ r. ⌜ AnnotationsMet (now (bytes .entry)) header (now (indexes .exit)) (now (places .exit)) r ⌝ }
+{
+    let end = header::proof_start(header);
+    let mut lowest = 0;
+    let mut at = 12 + 8 * header.instructions;
+    let mut count = 0;
+    while count < header.annotations {
+        let answer = annotation(bytes, header, lowest, at);
+        match answer {
+            AnnotationAnswer::Next { index, next } => {
+                indexes[count] = narrow(index);
+                places[count] = narrow(at);
+                lowest = index + 1;
+                at = next;
+                count += 1;
+            }
+            AnnotationAnswer::Refused(refusal) => {
+                return AnnotationsAnswer::Refused(refusal);
+            }
+        }
+    }
+    if at != end {
+        return AnnotationsAnswer::Refused(Refusal::AnnotationBytes(at));
+    }
+    AnnotationsAnswer::Passed
 }
