@@ -1,3 +1,3 @@
 // The annotations of a package, the search among them, and the jumps' targets.
-
+pub mod reading;
 pub mod search;

@@ -4,13 +4,12 @@ use mathlib.Core.Bool.{Bool, true, false}
 use mathlib.Core.Option.{Option, none, some}
 use mathlib.Core.List.{List, [], _∷_, _++_, append-assoc, append-nil}
 use native.Mathlib.Omega.{arith}
-use native.Mathlib.Numerals.{add-one}
 use Prim.Native.Nat.{ℕ, suc, _+_, _-_, _*_, _^_, _≤_, _<_}
 use lib.ListN.{length, getD, take, set, replicate, length-set, length-replicate, getD-replicate}
 use native.Mathlib.Decide.{ℕ-discrete}
 use types.Run.{OneOf, miss}
 use denote.Enum.Declared.{tagOf}
-use lib.Seq.{take-suc-set, getD-set-same, getD-set-other}
+use lib.Seq.{getD-set-same, getD-set-other}
 use lib.Dec.{ltb}
 use Rattle.model.specs.Result.{Result, Fit, stop, value, _>>=_, check, stopAs}
 use Rattle.model.specs.Word.{le32}
@@ -33,6 +32,7 @@ use Rattle.routine.specs.declared.instructions.CodeAnswer.the-variants a
 use Rattle.routine.specs.declared.instructions.Line.{Line}
 use Rattle.routine.specs.declared.instructions.CodeRead.{CodeRead}
 use Rattle.routine.specs.Code.{decodedOf, targetOption, instructionResult, instructionAt, Formed, FormedIfPassed, InstructionRead, codeChecked, instructionsOf, codeOfLines, AllFormed, CodeMet}
+use Rattle.routine.proofs.Lists.{map-stored}
 use Rattle.routine.proofs.Results.{bind-assoc, bind-same}
 use Rattle.routine.proofs.Decoding.{decoded, undecoded, formed}
 
@@ -174,10 +174,6 @@ module _ (bytes : List ℕ) (h : Header) where
   joined (stop e) before x = refl
   joined (value rest) before x = ap value (sym (append-assoc before (x ∷ []) rest))
 
-  kept : (lines : List Line) (x : Instruction) → instructionsOf (lines ++ (record { instruction = x } ∷ [])) ≡ instructionsOf lines ++ (x ∷ [])
-  kept [] x = refl
-  kept (line ∷ lines) x = ap (λ (l : List Instruction). line .instruction ∷ l) (kept lines x)
-
   module _ (code : List Line) (index : ℕ) (g : Reading code index) (r : InstructionAnswer) (e : InstructionRead bytes h index r) (l : index < h .instructions) (few : h .instructions ≤ 256) where
     pub read-more : (x : Instruction) → r ≡ Passed x → Reading (set code index (record { instruction = x })) (index + 1)
     unfolding instructionResult FormedIfPassed
@@ -185,7 +181,7 @@ module _ (bytes : List ℕ) (h : Header) where
         let f = subst (λ (y : InstructionAnswer). InstructionRead bytes h index y) p e in
         let line : Line = record { instruction = x } in
         let before = instructionsOf (take index code) in
-        let t : instructionsOf (take (index + 1) (set code index line)) ≡ before ++ (x ∷ []) = rw (add-one index, take-suc-set code index line (rw (g .long) (omega arith))) (kept (take index code) x) in
+        let t : instructionsOf (take (index + 1) (set code index line)) ≡ before ++ (x ∷ []) = map-stored (λ (l : Line). l .instruction) code index line (rw (g .long) (omega arith)) in
         record {
           within = omega arith;
           long = length-set code index line ∙ g .long;

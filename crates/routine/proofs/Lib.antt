@@ -1,4 +1,5 @@
 pub mod Results
+pub mod Lists
 pub mod Headers
 pub mod Decoding
 pub mod Codes
