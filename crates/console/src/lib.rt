@@ -3,43 +3,56 @@ use libc::STDOUT_FILENO;
 ghost use mathlib.Core.Path.{_≡_};
 ghost use Prim.Native.Nat.{ℕ, _+_, _*_, _≤_, _<_};
 ghost use lib.ListN.{length};
+ghost use Rattle.io.specs.Counts.{Counts};
 ghost use Rattle.console.specs.Words.{wordsFrom};
-ghost use Rattle.console.specs.Loaded.{Within};
 
-// So many bytes at the start of the buffer, or nothing: the file cannot be read, and a message on standard error has named it.
-pub enum Loaded {
-    Bytes(usize),
-    Unreadable,
+// What reading a file gave: whether it can be read, and if so how many bytes stand at the start of the buffer. If not, a message on
+// standard error has named it.
+pub struct Loaded {
+    pub readable: bool,
+    pub bytes: usize,
 }
 
 // Reads from a descriptor until the buffer is full or the input ends.
 fn fill(fd: i32, name: &[u8], buf: &mut [u8]) -> Loaded
-    ensures { λ r. ⌜ Within r (length (now (buf .entry))) ⌝ }
+    ensures { λ r. ⌜ Counts (r .bytes) (now (buf .exit)) ⌝ }
 {
     let mut done: usize = 0;
     while done < buf.len() {
         let got = libc::read(fd, &mut buf[done..]);
         if got < 0 {
             os::fail(name);
-            return Loaded::Unreadable;
+            return Loaded {
+                readable: false,
+                bytes: 0,
+            };
         }
         let count = io::count(got, &buf[done..]);
         if count == 0 {
-            return Loaded::Bytes(done);
+            return Loaded {
+                readable: true,
+                bytes: done,
+            };
         }
         done += count;
     }
-    Loaded::Bytes(done)
+    Loaded {
+        readable: true,
+        bytes: done,
+    }
 }
 
 // The bytes of a file, as many as the buffer holds.
 pub fn load(name: &[u8], buf: &mut [u8]) -> Loaded
-    ensures { λ r. ⌜ Within r (length (now (buf .entry))) ⌝ }
+    ensures { λ r. ⌜ Counts (r .bytes) (now (buf .exit)) ⌝ }
 {
     let fd = os::open_read(name);
     if fd < 0 {
         os::fail(name);
-        return Loaded::Unreadable;
+        return Loaded {
+            readable: false,
+            bytes: 0,
+        };
     }
     let loaded = fill(fd, name, buf);
     libc::close(fd);
