@@ -25,7 +25,7 @@ refused-not e = let z : _≡_ {A = ℕ} 0 1 = cc in absurd (omega arith)
 
 -- read_condition
 module _ (bytes : List ℕ) (count p : ℕ) where
-  pub condition-stops : (e : ReadError) → conditionAt bytes count p ≡ stop e → ConditionReads bytes count p (Refused (policyRefusal bytes e))
+  condition-stops : (e : ReadError) → conditionAt bytes count p ≡ stop e → ConditionReads bytes count p (Refused (policyRefusal bytes e))
   unfolding conditionResult conditionEnd _>>=_ stopAs
   condition-stops e h = record { answer = rw h; passed = λ q f. refused-not f }
 

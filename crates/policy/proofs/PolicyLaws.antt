@@ -28,7 +28,7 @@ use Rattle.policy.proofs.SizesLaws.{Sized, sized}
 use Rattle.policy.proofs.RegionsLaws.{all-end, room, ends-at}
 
 -- the definition with both conditions as one
-unfoldable pub readBy : List ℕ → Result Refusal model.Policy
+readBy : List ℕ → Result Refusal model.Policy
 readBy bytes = do
   s ← sizesOf bytes
   _ ← check (leb (12 + 8 * s .regions) (length bytes)) (PolicyLength (length bytes))
