@@ -1,3 +1,4 @@
 pub mod Searches
 pub mod Annotations
 pub mod Tables
+pub mod Jumps
