@@ -1,5 +1,5 @@
 -- The laws of check 12, one for each way out. Assumes nothing.
-use mathlib.Core.Path.{_≡_, refl, sym, ap, _∙_}
+use mathlib.Core.Path.{_≡_, refl, sym, _∙_}
 use mathlib.Core.Bool.{Bool, true, false}
 use mathlib.Core.List.{List, [], _∷_}
 use native.Mathlib.Omega.{arith}
@@ -7,7 +7,7 @@ use native.Mathlib.Numerals.{add-one}
 use Prim.Native.Nat.{ℕ, _+_, _≤_, _<_}
 use lib.ListN.{length, getD, take, drop, drop-of-length-le}
 use lib.Seq.{drop-cons}
-use Rattle.model.specs.Result.{Result, stop, value, _>>=_, check}
+use Rattle.model.specs.Result.{stop, value, _>>=_, check}
 use Rattle.model.specs.Term.{constant}
 use Rattle.model.specs.Instruction.{targetOf}
 use Rattle.model.specs.Package.{readCode}
@@ -22,7 +22,7 @@ use Rattle.routine.specs.declared.instructions.Target.{Target}
 use Rattle.routine.specs.declared.instructions.Target.the-variants as target
 use Rattle.routine.specs.declared.instructions.InstructionAnswer.{InstructionAnswer}
 use Rattle.routine.specs.declared.instructions.InstructionAnswer.the-variants as instruction
-use Rattle.routine.specs.Code.{targetOption, instructionResult, instructionAt, InstructionRead}
+use Rattle.routine.specs.Code.{targetOption, instructionResult, InstructionRead}
 use Rattle.routine.proofs.Facts.{code-at, code-length}
 use Rattle.annotations.specs.declared.search.Found.{Found}
 use Rattle.annotations.specs.declared.search.Found.the-variants as found

@@ -2,3 +2,4 @@ pub mod Searches
 pub mod Annotations
 pub mod Tables
 pub mod Jumps
+pub mod Facts

@@ -4,7 +4,7 @@ use mathlib.Core.List.{List, [], _∷_}
 use native.Mathlib.Omega.{arith}
 use Prim.Native.Nat.{ℕ, zero, suc, _+_, _*_, _^_, _<_}
 use lib.ListN.{length, getD}
-use Rattle.model.specs.Result.{Result, stop, value, _>>=_, check, stopAs}
+use Rattle.model.specs.Result.{Result, stop, value, check, stopAs}
 use Rattle.model.specs.Word.{le16, le32}
 use Rattle.model.specs.Instruction.{decode, targetInside}
 use Rattle.model.specs.Package.{immediateStart, instructionsFrom, readCode}
