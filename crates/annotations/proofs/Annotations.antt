@@ -1,12 +1,12 @@
 -- The laws of one annotation, one for each way out of its reader. Assumes nothing.
 use mathlib.Core.Path.{_≡_, refl, sym, ap, subst, _∙_}
-use mathlib.Core.Bool.{Bool, true, false, not, _&&_, and-eq-true-iff}
+use mathlib.Core.Bool.{true, false, not, _&&_, and-eq-true-iff}
 use mathlib.Core.List.{List, [], _∷_}
 use native.Mathlib.Omega.{arith}
-use Prim.Native.Nat.{ℕ, _+_, _-_, _≤_, _<_, max}
+use Prim.Native.Nat.{ℕ, _+_, _≤_, _<_, max}
 use types.Run.{OneOf, miss}
 use denote.Enum.Declared.{tagOf}
-use lib.ListN.{length, getD}
+use lib.ListN.{getD}
 use lib.Dec.{leb, ltb}
 use borrow.Author.Tests.{le-leb, lt-leb, ltb-true, not-true, not-false}
 use Rattle.model.specs.Result.{Result, stop, value, _>>=_, check, stopAs}
@@ -24,7 +24,6 @@ use Rattle.expressions.specs.declared.Reading.{Reading}
 use Rattle.expressions.specs.declared.Reading.the-variants.{Next, Missing, Fault}
 use Rattle.expressions.specs.Reading.{readingOf, Inside, Reads, read-next, read-inside, read-missing, read-fault}
 use Rattle.expressions.proofs.Reading.{the-type}
-use Rattle.annotations.specs.declared.reading.AnnotationAnswer.{AnnotationAnswer}
 use Rattle.annotations.specs.declared.reading.AnnotationAnswer.the-variants as one
 use Rattle.annotations.specs.Annotations.{bodyAt, annotationAnswerOf, InsideIfNext, AnnotationRead}
 

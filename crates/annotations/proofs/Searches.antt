@@ -1,19 +1,18 @@
 -- The laws of the search, and what it says of the annotations. Assumes nothing.
 use mathlib.Core.Path.{_≡_, refl, sym, ap, _∙_}
-use mathlib.Core.Bool.{Bool, true, false}
 use mathlib.Core.Option.{none, some}
-use mathlib.Core.List.{List, [], _∷_, map}
+use mathlib.Core.List.{List, [], _∷_}
 use native.Mathlib.Omega.{arith}
 use native.Mathlib.Numerals.{add-one}
 use native.Mathlib.Decide.{ℕ-discrete}
-use Prim.Native.Nat.{ℕ, zero, suc, _+_, _≤_, _<_}
+use Prim.Native.Nat.{ℕ, suc, _+_, _≤_, _<_}
 use lib.ListN.{getD, length, take, drop, drop-of-length-le}
 use lib.Seq.{drop-cons, getD-take, length-take-le}
-use lib.Dec.{eqb}
 use borrow.Author.Tests.{eq-eqb, ne-eqb}
 use Rattle.model.specs.Annotation.{Annotation, annotationAt}
 use Rattle.annotations.specs.declared.search.Found.{Found}
 use Rattle.annotations.specs.declared.search.Found.the-variants.{At, Nothing}
+use Rattle.annotations.specs.Annotations.{indexesOf}
 use Rattle.annotations.specs.Search.{positionFrom}
 
 -- i places of the first `count` are passed, and the search from there gives the same
@@ -44,36 +43,33 @@ module _ (l : List ℕ) (count x : ℕ) (fits : count ≤ length l) where
 
 -- ---- the annotation that the search finds
 
-abbrev pub indexOf : Annotation → ℕ
-indexOf a = a .index
-
 -- the first annotation at the index x stands at place k
 pub record FoundAt (annotations : List Annotation) (x k : ℕ) : Type 0 where
   pub inside : k < length annotations
   pub is : (other : Annotation) → annotationAt annotations x ≡ some (getD annotations k other)
 
 module _ (x : ℕ) where
-  found-from : (annotations : List Annotation) (i k : ℕ) → At k ≡ positionFrom (map indexOf annotations) x i → (j : ℕ) × (k ≡ i + j) × FoundAt annotations x j
+  found-from : (annotations : List Annotation) (i k : ℕ) → At k ≡ positionFrom (indexesOf annotations) x i → (j : ℕ) × (k ≡ i + j) × FoundAt annotations x j
   unfolding positionFrom annotationAt
   found-from [] i k e = let z : _≡_ {A = ℕ} 0 1 = cc in absurd (omega arith)
   found-from (a ∷ rest) i k e = go (ℕ-discrete (a .index) x) (found-from rest (i + 1) k)
     where
-      go : Dec (a .index ≡ x) → (At k ≡ positionFrom (map indexOf rest) x (i + 1) → (j : ℕ) × (k ≡ i + 1 + j) × FoundAt rest x j) → (j : ℕ) × (k ≡ i + j) × FoundAt (a ∷ rest) x j
+      go : Dec (a .index ≡ x) → (At k ≡ positionFrom (indexesOf rest) x (i + 1) → (j : ℕ) × (k ≡ i + 1 + j) × FoundAt rest x j) → (j : ℕ) × (k ≡ i + j) × FoundAt (a ∷ rest) x j
       go (yes same) later =
           let p : At k ≡ At i = e ∙ rw (eq-eqb (a .index) x same, positionFrom) in
           let q : k ≡ i = cc in
           (0, omega arith, record { inside = omega arith; is = λ other. rw (eq-eqb (a .index) x same, annotationAt) })
       go (no apart) later =
-          let p : At k ≡ positionFrom (map indexOf rest) x (i + 1) = e ∙ rw (ne-eqb (a .index) x apart, positionFrom) in
+          let p : At k ≡ positionFrom (indexesOf rest) x (i + 1) = e ∙ rw (ne-eqb (a .index) x apart, positionFrom) in
           let r = later p in
           (suc (r .0), omega (arith, r .1), record { inside = omega (arith, r .2 .inside); is = λ other. rw (ne-eqb (a .index) x apart, annotationAt) (r .2 .is other) })
 
-  none-from : (annotations : List Annotation) (i : ℕ) → Nothing ≡ positionFrom (map indexOf annotations) x i → annotationAt annotations x ≡ none
+  none-from : (annotations : List Annotation) (i : ℕ) → Nothing ≡ positionFrom (indexesOf annotations) x i → annotationAt annotations x ≡ none
   unfolding positionFrom annotationAt
   none-from [] i e = refl
   none-from (a ∷ rest) i e = go (ℕ-discrete (a .index) x) (none-from rest (i + 1))
     where
-      go : Dec (a .index ≡ x) → (Nothing ≡ positionFrom (map indexOf rest) x (i + 1) → annotationAt rest x ≡ none) → annotationAt (a ∷ rest) x ≡ none
+      go : Dec (a .index ≡ x) → (Nothing ≡ positionFrom (indexesOf rest) x (i + 1) → annotationAt rest x ≡ none) → annotationAt (a ∷ rest) x ≡ none
       go (yes same) later =
           let p : Nothing ≡ At i = e ∙ rw (eq-eqb (a .index) x same, positionFrom) in
           let z : _≡_ {A = ℕ} 0 1 = cc in
@@ -81,7 +77,7 @@ module _ (x : ℕ) where
       go (no apart) later = rw (ne-eqb (a .index) x apart, annotationAt) (later (e ∙ rw (ne-eqb (a .index) x apart, positionFrom)))
 
   -- what an answer of the search says, where the list holds the annotations' indexes
-  module _ (annotations : List Annotation) (l : List ℕ) (listed : l ≡ map indexOf annotations) (r : Found) (e : r ≡ positionFrom l x 0) where
+  module _ (annotations : List Annotation) (l : List ℕ) (listed : l ≡ indexesOf annotations) (r : Found) (e : r ≡ positionFrom l x 0) where
     pub found-annotation : {k : ℕ} → r ≡ At k → FoundAt annotations x k
     found-annotation {k} a =
         let f = found-from annotations 0 k (sym a ∙ e ∙ ap (λ (m : List ℕ). positionFrom m x 0) listed) in

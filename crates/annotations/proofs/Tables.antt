@@ -1,16 +1,15 @@
 -- The laws of the tables of annotations, one for each way out of their reader. Assumes nothing.
 use mathlib.Core.Path.{_≡_, refl, sym, ap, subst, _∙_}
-use mathlib.Core.Bool.{Bool, true, false, _&&_, and-eq-true-iff}
-use mathlib.Core.List.{List, [], _∷_, _++_, map, append-assoc, append-nil}
+use mathlib.Core.Bool.{_&&_, and-eq-true-iff}
+use mathlib.Core.List.{List, [], _∷_, _++_, append-assoc, append-nil}
 use native.Mathlib.Omega.{arith}
 use native.Mathlib.Decide.{ℕ-discrete}
-use Prim.Native.Nat.{ℕ, zero, suc, _+_, _-_, _*_, _≤_, _<_, zero-le}
+use Prim.Native.Nat.{ℕ, suc, _+_, _-_, _≤_, _<_, zero-le}
 use lib.ListN.{length, getD, take, set, length-set}
 use lib.Seq.{getD-set-same, getD-set-other}
 use lib.Dec.{leb, ltb, eqb}
 use borrow.Author.Tests.{le-leb, eq-eqb, ne-eqb}
 use Rattle.model.specs.Result.{Result, stop, value, _>>=_, check}
-use Rattle.model.specs.Term.{constant}
 use Rattle.model.specs.Field.{halfAt}
 use Rattle.model.specs.Package.{annotationStart, proofStart}
 use Rattle.model.specs.Annotation.{Annotation, annotationField, annotationFrom, annotationsFrom, readAnnotations}
@@ -22,7 +21,7 @@ use Rattle.routine.proofs.Lists.{take-stored, map-stored, map-snoc}
 use Rattle.annotations.specs.declared.reading.AnnotationAnswer.{AnnotationAnswer}
 use Rattle.annotations.specs.declared.reading.AnnotationAnswer.the-variants as one
 use Rattle.annotations.specs.declared.reading.AnnotationsAnswer.the-variants as all
-use Rattle.annotations.specs.Annotations.{annotationAnswerOf, InsideIfNext, AnnotationRead, annotationAtPlace, Placed, annotationsAt, indexesOf, Tabled, annotationsResult, TabledIfPassed, AnnotationsMet}
+use Rattle.annotations.specs.Annotations.{annotationAnswerOf, InsideIfNext, AnnotationRead, annotationAtPlace, Placed, annotationsAt, Tabled, annotationsResult, TabledIfPassed, AnnotationsMet}
 
 module _ (bytes : List ℕ) (h : Header) where
   -- ---- what an answer says of the annotation

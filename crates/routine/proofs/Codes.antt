@@ -1,7 +1,7 @@
 -- The laws of the readers of instructions, one for each way out. Assumes nothing.
 use mathlib.Core.Path.{_≡_, refl, sym, ap, subst, _∙_}
-use mathlib.Core.Bool.{Bool, true, false}
-use mathlib.Core.Option.{Option, none, some}
+use mathlib.Core.Bool.{true, false}
+use mathlib.Core.Option.{none}
 use mathlib.Core.List.{List, [], _∷_, _++_, append-assoc, append-nil}
 use native.Mathlib.Omega.{arith}
 use Prim.Native.Nat.{ℕ, suc, _+_, _-_, _*_, _^_, _≤_, _<_}
@@ -11,7 +11,7 @@ use types.Run.{OneOf, miss}
 use denote.Enum.Declared.{tagOf}
 use lib.Seq.{getD-set-same, getD-set-other}
 use lib.Dec.{ltb}
-use Rattle.model.specs.Result.{Result, Fit, stop, value, _>>=_, check, stopAs}
+use Rattle.model.specs.Result.{Result, stop, value, _>>=_, check, stopAs}
 use Rattle.model.specs.Word.{le32}
 use Rattle.model.specs.Instruction.{decode, targetOf, targetInside}
 use Rattle.model.specs.Package.{immediateStart, instructionsFrom, readCode}
@@ -27,10 +27,8 @@ use Rattle.routine.specs.declared.instructions.Target.{Target}
 use Rattle.routine.specs.declared.instructions.Target.the-variants.{At, Nowhere}
 use Rattle.routine.specs.declared.instructions.InstructionAnswer.{InstructionAnswer}
 use Rattle.routine.specs.declared.instructions.InstructionAnswer.the-variants.{Passed, Refused}
-use Rattle.routine.specs.declared.instructions.CodeAnswer.{CodeAnswer}
 use Rattle.routine.specs.declared.instructions.CodeAnswer.the-variants as answers
 use Rattle.routine.specs.declared.instructions.Line.{Line}
-use Rattle.routine.specs.declared.instructions.CodeRead.{CodeRead}
 use Rattle.routine.specs.Code.{decodedOf, targetOption, instructionResult, instructionAt, Formed, FormedIfPassed, InstructionRead, codeChecked, instructionsOf, codeOfLines, AllFormed, CodeMet}
 use Rattle.routine.proofs.Lists.{map-stored}
 use Rattle.routine.proofs.Results.{bind-assoc, bind-same}

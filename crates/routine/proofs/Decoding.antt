@@ -14,7 +14,6 @@ use Rattle.model.specs.Result.{Fit, misfit, stop, value, _>>=_, check, found}
 use Rattle.model.specs.Instruction.{provided, operations, decode, targetOf, targetInside}
 use Rattle.model.specs.declared.Instruction.{Instruction}
 use Rattle.model.specs.declared.Instruction.the-variants.{Set, Add, AddImmediate, Subtract, Load, Store, Jump, JumpLess, JumpEqual, Return}
-use Rattle.routine.specs.declared.instructions.Decoded.{Decoded}
 use Rattle.routine.specs.declared.instructions.Decoded.the-variants.{Good, Bad}
 use Rattle.routine.specs.Code.{decodedOf, Formed}
 

@@ -4,7 +4,7 @@ use mathlib.Core.List.{List, [], _∷_}
 use native.Mathlib.Omega.{arith}
 use Prim.Native.Nat.{ℕ, zero, suc, _+_, _*_, _^_, _<_}
 use lib.ListN.{length, getD}
-use Rattle.model.specs.Result.{Result, stop, value, _>>=_, check, stopAs}
+use Rattle.model.specs.Result.{Result, stop, value, check, stopAs}
 use Rattle.model.specs.Word.{le16, le32}
 use Rattle.model.specs.Instruction.{decode, targetInside}
 use Rattle.model.specs.Package.{immediateStart, instructionsFrom, readCode}
@@ -25,9 +25,9 @@ checked-code (stop x) e = let z : _≡_ {A = ℕ} 0 1 = cc in absurd (omega arit
 checked-code (value code) e = (code, refl)
 
 -- as many instructions as were asked for, each that of its index
-pub record CodeStands (bytes : List ℕ) (h : Header) (count index : ℕ) (code : List Instruction) : Type 0 where
-  pub long : length code ≡ count
-  pub at : (k : ℕ) (other : Instruction) → k < count → instructionAt bytes h (index + k) ≡ value (getD code k other)
+record CodeStands (bytes : List ℕ) (h : Header) (count index : ℕ) (code : List Instruction) : Type 0 where
+  long : length code ≡ count
+  at : (k : ℕ) (other : Instruction) → k < count → instructionAt bytes h (index + k) ≡ value (getD code k other)
 
 module _ (bytes : List ℕ) (h : Header) where
   stands-from : (left index : ℕ) (code : List Instruction) → instructionsFrom bytes h left index ≡ value code → CodeStands bytes h left index code
@@ -47,9 +47,14 @@ module _ (bytes : List ℕ) (h : Header) where
           at-place (suc k) other l = let s : index + suc k ≡ index + 1 + k = omega arith in rw s (more .at k other (omega arith))
 
   -- the instructions of a code that was read
-  pub code-stands : {code : List Instruction} → readCode bytes h ≡ value code → CodeStands bytes h (h .instructions) 0 code
-  unfolding readCode
-  code-stands {code} e = stands-from (h .instructions) 0 code e
+  module _ {code : List Instruction} (read : readCode bytes h ≡ value code) where
+    pub code-length : length code ≡ h .instructions
+    unfolding readCode
+    code-length = stands-from (h .instructions) 0 code read .long
+
+    pub code-at : (index : ℕ) (other : Instruction) → index < h .instructions → instructionAt bytes h index ≡ value (getD code index other)
+    unfolding readCode
+    code-at index other l = let s : 0 + index ≡ index = omega arith in rw s at (stands-from (h .instructions) 0 code read .at index other l)
 
   -- an instruction that passes, in bytes
   pub formed-at : ((k : ℕ) → getD bytes k 0 < 2 ^ 8) → (index : ℕ) (x : Instruction) → instructionAt bytes h index ≡ value x → Formed (h .instructions) x

@@ -1,6 +1,6 @@
 -- The laws of the header, one for each way out of its reader. Assumes nothing.
 use mathlib.Core.Path.{_≡_, sym, subst}
-use mathlib.Core.Bool.{Bool, true, false, not, _&&_, and-false, and-eq-true-iff}
+use mathlib.Core.Bool.{true, false, not, _&&_, and-false, and-eq-true-iff}
 use mathlib.Core.List.{List, []}
 use native.Mathlib.Omega.{arith}
 use Prim.Native.Nat.{ℕ, _+_, _-_, _*_, _≤_, _<_, min}
@@ -9,7 +9,7 @@ use lib.ListN.{length, take, drop, length-drop}
 use lib.Seq.{take-all}
 use lib.Dec.{leb, eqb}
 use borrow.Author.Tests.{le-leb, lt-leb, eq-eqb, ne-eqb, leb-true, not-true, not-false}
-use Rattle.model.specs.Result.{stop, value, _>>=_, check}
+use Rattle.model.specs.Result.{stop, value, check, _>>=_}
 use Rattle.model.specs.Word.{le16, le32}
 use Rattle.model.specs.Refusal.{numberOf, placeOf}
 use Rattle.model.specs.Package.{proofStart, readHeader, proofSection, finderAnswer}

@@ -1,11 +1,11 @@
 -- What the readers of instructions promise. Assumes nothing.
 use mathlib.Core.Path.{_≡_}
 use mathlib.Core.Option.{Option, none, some}
-use mathlib.Core.List.{List, [], _∷_}
+use mathlib.Core.List.{List}
 use Prim.Native.Nat.{ℕ, _+_, _*_, _^_, _<_}
 use lib.ListN.{length, getD, take}
 use mathlib.Core.List.{map}
-use Rattle.model.specs.Result.{Result, Fit, stop, value, _>>=_, check, stopAs}
+use Rattle.model.specs.Result.{Result, Fit, stop, value, check, stopAs, _>>=_}
 use Rattle.model.specs.Word.{le32}
 use Rattle.model.specs.Instruction.{decode, targetInside}
 use Rattle.model.specs.Package.{immediateStart, readCode}
