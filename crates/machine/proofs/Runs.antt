@@ -19,6 +19,7 @@ use Rattle.routine.specs.Code.{Formed, instructionsOf}
 use Rattle.machine.specs.declared.Progress.{Progress}
 use Rattle.machine.specs.declared.Progress.the-variants.{Next, Returned, WithoutRight}
 use Rattle.machine.specs.Step.{InRange, Ready, Under, Executed, state, stepOf}
+use Rattle.machine.specs.Counted.{counted}
 use Rattle.machine.specs.Run.{Runnable, Ran}
 
 -- ---- the instruction at the counter
@@ -72,6 +73,11 @@ module _ (lines : List Line) (size : ℕ) (regions : List Region) (count : ℕ) 
   abbrev Promised : Outcome → (registers memory : List ℕ) → Type 0
   Promised = Ran code (take count regions) registers₀ memory₀ budget
 
+  promise : (r : Outcome) (registers memory : List ℕ)
+      → ((p : Policy) → Here p → record { outcome = r; registers = registers; memory = memory } ≡ runFrom p code budget 0 (startOf registers₀ memory₀))
+      → Promised r registers memory
+  promise r registers memory e = record { run = e; steps = λ p u. rw (e p u) (counted p code (startOf registers₀ memory₀) budget) }
+
   pub begin : length lines ≡ 256 → Runnable lines size count registers₀ → Going lines size regions count registers₀ memory₀ budget registers₀ memory₀ 0 0
   begin l r = record { whole = l; runnable = r; within = omega arith; as-many = refl; as-long = refl; rest = λ p u. rw sub-zero }
 
@@ -86,7 +92,7 @@ module _ (lines : List Line) (size : ℕ) (regions : List Region) (count : ℕ) 
     unfolding runFrom
     spent e =
         let z : budget - steps ≡ 0 = omega arith in
-        record { run = λ p u. rw (g .rest p u, z) }
+        promise _ _ _ (λ p u. rw (g .rest p u, z))
 
     module _ (left : steps ≡ budget → ⊥) where
       -- what follows a step
@@ -107,7 +113,7 @@ module _ (lines : List Line) (size : ℕ) (regions : List Region) (count : ℕ) 
 
       pub past : size ≤ counter → Promised (record { number = 22; place = counter; steps = steps }) registers memory
       unfolding step
-      past h = record { run = λ p u. sym (goes-on p u past-end (rw (beyond code counter (rw code-length h), step))) }
+      past h = promise _ _ _ (λ p u. sym (goes-on p u past-end (rw (beyond code counter (rw code-length h), step))))
 
       -- the instruction is there, at the counter
       module _ (h : counter < size) (other : Line) where
@@ -119,7 +125,7 @@ module _ (lines : List Line) (size : ℕ) (regions : List Region) (count : ℕ) 
             there code counter (other .instruction) (rw code-length h)
             ∙ rw (List·getD-map (λ (l : Line). l .instruction) (take size lines) counter other, getD-take size lines counter other h)
 
-        pub ready : Ready counter count registers (InRange instruction)
+        pub ready : Ready counter count registers instruction
         ready = record {
           low = omega (arith, g .runnable .short);
           few = g .runnable .few;
@@ -148,9 +154,9 @@ module _ (lines : List Line) (size : ℕ) (regions : List Region) (count : ℕ) 
           pub returned : r ≡ Returned → Promised (record { number = 0; place = counter; steps = steps + 1 }) registers′ memory′
           returned e =
               let k = rw e at (x .kept) in
-              record { run = λ p u. rw (k .0, k .1) (sym (stepped Returned e p u)) }
+              promise _ _ _ (λ p u. rw (k .0, k .1) (sym (stepped Returned e p u)))
 
           pub refused : r ≡ WithoutRight → Promised (record { number = 21; place = counter; steps = steps }) registers′ memory′
           refused e =
               let k = rw e at (x .kept) in
-              record { run = λ p u. rw (k .0, k .1) (sym (stepped WithoutRight e p u)) }
+              promise _ _ _ (λ p u. rw (k .0, k .1) (sym (stepped WithoutRight e p u)))

@@ -15,11 +15,11 @@ use Rattle.model.specs.declared.Instruction.the-variants.{Set, Add, AddImmediat
 use Rattle.machine.specs.declared.Progress.{Progress}
 use Rattle.machine.specs.declared.Progress.the-variants.{Next, Returned, WithoutRight}
 use Rattle.machine.specs.Right.{permits}
-use Rattle.machine.specs.Step.{InRange, Ready, Under, Executed, state, target, stepOf, Kept}
+use Rattle.machine.specs.Step.{Ready, Under, Executed, state, target, stepOf, Kept}
 
 -- the instruction is known
-pub told : {counter count : ℕ} {registers : List ℕ} {instruction q : Instruction} → instruction ≡ q → Ready counter count registers (InRange instruction) → Ready counter count registers (InRange q)
-told {counter} {count} {registers} e ready = subst (λ (x : Instruction). Ready counter count registers (InRange x)) e ready
+pub told : {counter count : ℕ} {registers : List ℕ} {instruction q : Instruction} → instruction ≡ q → Ready counter count registers instruction → Ready counter count registers q
+told {counter} {count} {registers} e ready = subst (λ (x : Instruction). Ready counter count registers x) e ready
 
 -- a word with a right lies in the memory
 pub inside : (right memory : ℕ) (regions : List Region) (w : ℕ) (given : Bool) → given ≡ permits right memory regions w → given ≡ true → w < memory

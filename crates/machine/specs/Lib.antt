@@ -1,3 +1,4 @@
 pub mod Right
 pub mod Step
+pub mod Counted
 pub mod Run

@@ -12,6 +12,7 @@ use Rattle.model.specs.declared.Outcome.{Outcome}
 use Rattle.routine.specs.declared.instructions.Line.{Line}
 use Rattle.routine.specs.Code.{AllFormed}
 use Rattle.machine.specs.Step.{Under}
+use Rattle.machine.specs.Counted.{Counted}
 
 -- what a run asks of its arguments: the code is in the first `size` lines
 pub record Runnable (lines : List Line) (size count : ℕ) (registers : List ℕ) : Type 0 where
@@ -20,7 +21,11 @@ pub record Runnable (lines : List Line) (size count : ℕ) (registers : List ℕ
   pub sixteen : length registers ≡ 16
   pub formed : AllFormed size lines
 
--- the outcome, and the registers and memory left: the machine's run, under every policy of that memory size with these regions
+-- the outcome, and the registers and memory left, under every policy of that memory size with these regions
 pub record Ran (code : List Instruction) (regions : List Region) (registers memory : List ℕ) (budget : ℕ) (r : Outcome) (registers′ memory′ : List ℕ) : Type 0 where
+  -- they are those of the machine's run
   pub run : (policy : Policy) → Under policy (length memory) regions
       → record { outcome = r; registers = registers′; memory = memory′ } ≡ runFrom policy code budget 0 (startOf registers memory)
+  -- and the steps counted are the machine's to the state left
+  pub steps : (policy : Policy) → Under policy (length memory) regions
+      → Counted policy code (startOf registers memory) budget (record { outcome = r; registers = registers′; memory = memory′ })

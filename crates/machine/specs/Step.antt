@@ -25,12 +25,12 @@ InRange (JumpLess a b i) = (a < 16) × (b < 16)
 InRange (JumpEqual a b i) = (a < 16) × (b < 16)
 InRange Return = Unit
 
--- what a step asks of its arguments; `fits` is a fact of the instruction
-pub record Ready (counter count : ℕ) (registers : List ℕ) (fits : Type 0) : Type 0 where
+-- what a step asks of its arguments
+pub record Ready (counter count : ℕ) (registers : List ℕ) (instruction : Instruction) : Type 0 where
   pub low : counter < 256
   pub few : count ≤ 8
   pub sixteen : length registers ≡ 16
-  pub in-range : fits
+  pub in-range : InRange instruction
 
 abbrev pub state : (counter : ℕ) (registers memory : List ℕ) → State
 state counter registers memory = record { counter = counter; registers = registers; memory = memory }

@@ -10,7 +10,7 @@ ghost use lib.ListN.{length, getD, take, set};
 ghost use Rattle.model.specs.Policy.{covers, someRegion};
 ghost use Rattle.routine.specs.Code.{instructionsOf};
 ghost use Rattle.machine.specs.Right.{grants, permits};
-ghost use Rattle.machine.specs.Step.{InRange, Ready, target, state, Executed};
+ghost use Rattle.machine.specs.Step.{Ready, target, state, Executed};
 ghost use Rattle.machine.specs.Run.{Runnable, Ran};
 
 // Whether the region gives the right, 1 read or 2 write, to the word.
@@ -107,7 +107,7 @@ fn load(
     registers: &mut [u32],
     memory: &[u32],
 ) -> Progress
-    requires { ⌜ Ready counter count (now registers) (InRange (Instruction.Load d a i)) ⌝ }
+    requires { ⌜ Ready counter count (now registers) (Instruction.Load d a i) ⌝ }
     ensures { λ r. ⌜ Executed (take count regions) (Instruction.Load d a i) (state counter (now (registers .entry)) (now (memory .entry))) r (now (registers .exit)) (now (memory .entry)) ⌝ }
 {
     let at = fields::wide(fields::add(word(registers, a), i));
@@ -129,7 +129,7 @@ fn store(
     registers: &[u32],
     memory: &mut [u32],
 ) -> Progress
-    requires { ⌜ Ready counter count (now registers) (InRange (Instruction.Store d a i)) ⌝ }
+    requires { ⌜ Ready counter count (now registers) (Instruction.Store d a i) ⌝ }
     ensures { λ r. ⌜ Executed (take count regions) (Instruction.Store d a i) (state counter (now (registers .entry)) (now (memory .entry))) r (now (registers .entry)) (now (memory .exit)) ⌝ }
 {
     let at = fields::wide(fields::add(word(registers, a), i));
@@ -149,7 +149,7 @@ pub fn execute(
     registers: &mut [u32],
     memory: &mut [u32],
 ) -> Progress
-    requires { ⌜ Ready counter count (now registers) (InRange instruction) ⌝ }
+    requires { ⌜ Ready counter count (now registers) instruction ⌝ }
     ensures { λ r. ⌜ Executed (take count regions) instruction (state counter (now (registers .entry)) (now (memory .entry))) r (now (registers .exit)) (now (memory .exit)) ⌝ }
 {
     match instruction {

@@ -8,8 +8,9 @@ use lib.Dec.{eqb}
 use borrow.Author.Tests.{eqb-true}
 use Rattle.model.specs.Result.{Result, stop, value, _>>=_, check}
 use Rattle.model.specs.Policy.{Policy, readPolicy}
-use Rattle.model.specs.Runner.{Run, readStart, runOf}
+use Rattle.model.specs.Runner.{readStart, runOf}
 use Rattle.model.specs.Package.{codeOf}
+use Rattle.model.specs.Machine.{startOf}
 use Rattle.model.specs.declared.Header.{Header}
 use Rattle.model.specs.declared.Instruction.{Instruction}
 use Rattle.model.specs.declared.Outcome.{Outcome}
@@ -26,8 +27,9 @@ use Rattle.routine.specs.declared.instructions.CodeRead.{CodeRead}
 use Rattle.routine.specs.Headers.{Fits, HeaderRead}
 use Rattle.routine.specs.Code.{instructionsOf, codeOfLines, codeResult, CodeMet}
 use Rattle.routine.proofs.Headers.{passed, stopped}
+use Rattle.machine.specs.Counted.{Counted, counted}
 use Rattle.machine.specs.Run.{Runnable, Ran}
-use Rattle.runner.specs.Checks.{refusalOutcome, runOrRefuse, PackageRun}
+use Rattle.runner.specs.Checks.{refusalOutcome, runOrRefuse, PackageRun, Runs}
 
 -- ---- the package
 
@@ -68,12 +70,20 @@ pub asked : {policyBytes : List ℕ} {read : PolicyRead} → PolicyReads policyB
 asked m t registers rest f = (m .passed t .few-regions, eqb-true registers 16 (and-eq-true-iff (eqb registers 16) rest .0 f .0))
 
 module _ (policyBytes bytes registers memory : List ℕ) (budget : ℕ) where
-  abbrev left : Outcome → Run
-  left r = record { outcome = r; registers = registers; memory = memory }
+  abbrev Promised : Outcome → (registers memory : List ℕ) → Type 0
+  Promised = Runs policyBytes bytes registers memory budget
 
-  stops : (x : Refusal) (r : Outcome) → readStart policyBytes bytes registers memory ≡ stop x → r ≡ refusalOutcome x → left r ≡ runOf policyBytes bytes registers memory budget
+  counts : (policy : Policy) (code : List Instruction) → readStart policyBytes bytes registers memory ≡ value (policy, code)
+      → Counted policy code (startOf registers memory) budget (runOf policyBytes bytes registers memory budget)
   unfolding runOf
-  stops x r e o = rw (e, o, runOf)
+  counts policy code e = rw (e, runOf) (counted policy code (startOf registers memory) budget)
+
+  promise : (r : Outcome) (registers′ memory′ : List ℕ) → record { outcome = r; registers = registers′; memory = memory′ } ≡ runOf policyBytes bytes registers memory budget → Promised r registers′ memory′
+  promise r registers′ memory′ e = record { is = e; steps = λ policy code s. rw e (counts policy code s) }
+
+  stops : (x : Refusal) (r : Outcome) → readStart policyBytes bytes registers memory ≡ stop x → r ≡ refusalOutcome x → Promised r registers memory
+  unfolding runOf
+  stops x r e o = promise r registers memory (rw (e, o, runOf))
 
   module _ (policy : Policy) (p : readPolicy policyBytes ≡ value policy) where
     abbrev fitting : Bool
@@ -89,7 +99,7 @@ module _ (policyBytes bytes registers memory : List ℕ) (budget : ℕ) where
     starts f (value code) e = rw (p, f, e, readStart, runOf)
 
   module _ (read : PolicyRead) (m : PolicyReads policyBytes read) where
-    pub no-policy : (x : Refusal) → read .answer ≡ policies.Refused x → (r : Outcome) → r ≡ refusalOutcome x → left r ≡ runOf policyBytes bytes registers memory budget
+    pub no-policy : (x : Refusal) → read .answer ≡ policies.Refused x → (r : Outcome) → r ≡ refusalOutcome x → Promised r registers memory
     unfolding readStart _>>=_
     no-policy x e r o = stops x r (rw (policy-refused policyBytes m e, readStart)) o
 
@@ -100,14 +110,14 @@ module _ (policyBytes bytes registers memory : List ℕ) (budget : ℕ) where
       passes : readPolicy policyBytes ≡ value granted
       passes = policy-passed policyBytes m t
 
-      pub wrong-start : (eqb (length registers) 16 && eqb (length memory) w) ≡ false → (r : Outcome) → r ≡ refusalOutcome WrongStart → left r ≡ runOf policyBytes bytes registers memory budget
+      pub wrong-start : (eqb (length registers) 16 && eqb (length memory) w) ≡ false → (r : Outcome) → r ≡ refusalOutcome WrongStart → Promised r registers memory
       unfolding policyOf
       wrong-start f r o = stops WrongStart r (start-wrong granted passes (rw (← e) f)) o
 
       pub runs-package : (eqb (length registers) 16 && eqb (length memory) w) ≡ true → (r : Outcome) (registers′ memory′ : List ℕ)
           → PackageRun (take (read .policy .count) (read .policy .regions)) bytes registers memory budget r registers′ memory′
-          → record { outcome = r; registers = registers′; memory = memory′ } ≡ runOf policyBytes bytes registers memory budget
+          → Promised r registers′ memory′
       unfolding policyOf
       runs-package f r registers′ memory′ x =
           let l : length memory ≡ w = eqb-true (length memory) w (and-eq-true-iff (eqb (length registers) 16) (eqb (length memory) w) .0 f .1) in
-          x .run granted (record { words = sym (l ∙ e); granted = refl }) ∙ starts granted passes (rw (← e) f) (codeOf bytes) refl
+          promise r registers′ memory′ (x .run granted (record { words = sym (l ∙ e); granted = refl }) ∙ starts granted passes (rw (← e) f) (codeOf bytes) refl)

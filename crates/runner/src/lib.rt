@@ -8,8 +8,7 @@ use routine::instructions::CodeAnswer;
 ghost use mathlib.Core.Path.{_≡_};
 ghost use Prim.Native.Nat.{_≤_};
 ghost use lib.ListN.{length, take};
-ghost use Rattle.model.specs.Runner.{runOf};
-ghost use Rattle.runner.specs.Checks.{refusalOutcome, PackageRun};
+ghost use Rattle.runner.specs.Checks.{refusalOutcome, PackageRun, Runs};
 
 // The answer of a run that a check refuses.
 fn refused(refusal: Refusal) -> Outcome
@@ -63,7 +62,7 @@ pub fn run(
     memory: &mut [u32],
     budget: u32,
 ) -> Outcome
-    ensures { λ r. ⌜ record { outcome = r; registers = now (registers .exit); memory = now (memory .exit) } ≡ runOf (now (policy .entry)) (now (bytes .entry)) (now (registers .entry)) (now (memory .entry)) budget ⌝ }
+    ensures { λ r. ⌜ Runs (now (policy .entry)) (now (bytes .entry)) (now (registers .entry)) (now (memory .entry)) budget r (now (registers .exit)) (now (memory .exit)) ⌝ }
 {
     let read = policy::read_policy(policy);
     let answer = read.answer;
