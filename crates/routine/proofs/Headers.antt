@@ -83,8 +83,8 @@ module _ {bytes : List ℕ} {r : HeaderAnswer} (a : HeaderRead bytes r) where
   unfolding proofSection
   no-part e = let p = stopped a e in (rw (p, proofSection), rw (p, proofSection))
 
-  pub proof-inside : {h : Header} → r ≡ Passed h → proofStart h ≤ length bytes
-  proof-inside e = let p = passed a e .1 in omega arith
+  pub start-inside : {h : Header} → r ≡ Passed h → (s : ℕ) → s ≡ proofStart h → s ≤ length bytes
+  start-inside e s es = let p = passed a e .1 in omega arith
 
   -- the companion answer
   pub found-whole : {h : Header} → r ≡ Passed h → record { number = 0; place = 0 } ≡ finderAnswer bytes

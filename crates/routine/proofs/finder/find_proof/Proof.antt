@@ -1,6 +1,6 @@
 use mathlib.Core.Path.{refl}
 use native.Mathlib.Omega.{arith}
-use Rattle.routine.proofs.Headers.{passed, proof-inside, proof-part, no-part}
+use Rattle.routine.proofs.Headers.{passed, start-inside, proof-part, no-part}
 use native.Mathlib.Omega.{arith}
 use borrow.Author.Needs.{needs}
 use Rattle.routine.proofs.finder.find_proof.Statement.{statement}
@@ -16,13 +16,13 @@ proof-start-requires : tie.Need-proof-start-requires
 proof-start-requires c κs = let p = passed (c .before .before .before .read-header .ensures) (c .before .answer .given .1) .1 in omega arith
 
 sub-result : tie.Need-sub-result
-sub-result c = omega (arith, proof-inside (c .before .before .before .before .read-header .ensures) (c .before .before .answer .given .1), c .proof-start .ensures)
+sub-result c = omega (arith, start-inside (c .before .before .before .before .read-header .ensures) (c .before .before .answer .given .1) _ (c .proof-start .ensures))
 
 part-result-start : tie.Need-part-result-start
-part-result-start c = omega (arith, proof-inside (c .before .before .before .before .read-header .ensures) (c .before .before .answer .given .1), c .proof-start .ensures)
+part-result-start c = omega (arith, start-inside (c .before .before .before .before .read-header .ensures) (c .before .before .answer .given .1) _ (c .proof-start .ensures))
 
 part-result-end : tie.Need-part-result-end
-part-result-end c = search needs
+part-result-end c = omega (arith, start-inside (c .before .before .before .before .read-header .ensures) (c .before .before .answer .given .1) _ (c .proof-start .ensures))
 
 enum-told : tie.Need-enum-told
 enum-told c = search needs
