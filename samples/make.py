@@ -1,7 +1,7 @@
 #!/usr/bin/env python3
 """Writes the sample folders: policy.bin, routine.bin, start.bin and expected (the lines that the two programs print).
 
-Run it in this folder. The expected lines are given here by hand, from document 01; `compare.sh` runs the programs and compares.
+Run it in this folder. The expected lines are given here by hand, from document 01; compare.sh runs the programs and compares.
 """
 import os
 import struct
