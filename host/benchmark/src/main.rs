@@ -31,6 +31,11 @@ fn main() {
         measure_check(input);
     }
     println!();
+    println!("{:<52} {:>13} {:>7} {heading}", "finds", "bytes", "answer");
+    for input in finds().iter().filter(|input| input.name.contains(&part)) {
+        measure_find(input);
+    }
+    println!();
     println!("{:<52} {:>13} {:>7} {heading}", "runs, a step", "steps", "answer");
     for input in runs().iter().filter(|input| input.name.contains(&part)) {
         measure_run(input);
@@ -113,6 +118,36 @@ fn measure_check(input: &Check) {
         input.package.len(),
         verdict.number,
         verdict.goals,
+        times.row(1),
+        if agree { "" } else { "  ANSWERS DIFFER" },
+    );
+}
+
+fn finds() -> Vec<Check> {
+    let whole = package(&[Instruction::Return; 256], 0, &[], &[2; 60_000]);
+    let cut = whole[..whole.len() - 1].to_vec();
+    let find = |name: &str, package| Check { name: name.into(), policy: Vec::new(), package };
+    vec![find("proof of 60,000 bytes", whole), find("wrong length", cut)]
+}
+
+fn measure_find(input: &Check) {
+    let finding = reference::find_proof(&input.package);
+    let proved = loader::find_proof(&input.package);
+    let agree = (finding.number, finding.place, finding.length)
+        == (proved.number, proved.place, proved.proof.len());
+    let times = measure(
+        || {
+            black_box(reference::find_proof(black_box(&input.package)));
+        },
+        || {
+            black_box(loader::find_proof(black_box(&input.package)));
+        },
+    );
+    println!(
+        "{:<52} {:>13} {:>7} {}{}",
+        input.name,
+        input.package.len(),
+        finding.number,
         times.row(1),
         if agree { "" } else { "  ANSWERS DIFFER" },
     );

@@ -8,6 +8,7 @@
 //! With `PCC_TRACE` set, the name of each case goes to standard error before it is tried.
 
 use std::fmt::Debug;
+use std::panic::{catch_unwind, AssertUnwindSafe};
 use std::process::ExitCode;
 
 use generator::case::{Case, Cases, Start};
@@ -32,7 +33,9 @@ fn main() -> ExitCode {
         if trace {
             eprintln!("case {compared}: {}", case.name);
         }
-        let differences = compare(&case);
+        // An answer that the loader cannot take (a proof outside the package) makes it panic.
+        let differences = catch_unwind(AssertUnwindSafe(|| compare(&case)))
+            .unwrap_or_else(|_| vec!["panicked".into()]);
         if !differences.is_empty() {
             different += 1;
             if different <= SHOWN {

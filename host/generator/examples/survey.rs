@@ -39,5 +39,5 @@ fn main() {
         goals / accepted,
         bytes / accepted
     );
-    println!("bytes {rules:?}");
+    println!("bytes 0 to 24 of their proofs: {rules:?}");
 }

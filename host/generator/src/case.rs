@@ -7,6 +7,7 @@ use crate::damage::{damaged_package, damaged_policy, every_change, every_repaire
 use crate::hostile::hostile_cases;
 use crate::random::Random;
 use crate::routine::sample;
+use crate::shapes::shape_case;
 use crate::term::{Comparison, Term};
 use crate::worst::worst_cases;
 
@@ -43,7 +44,7 @@ const LONG: u32 = 20_000;
 const SHORT: usize = 400;
 
 /// All cases of a seed: first the fixed ones (limits and worst cases), then random samples with
-/// damage. One sample of some is damaged in every place.
+/// damage, and single rules. One sample of some is damaged in every place.
 #[derive(Debug)]
 pub struct Cases {
     random: Random,
@@ -89,6 +90,7 @@ impl Cases {
             let damaged = damaged_policy(&policy, random);
             self.queue.push_back((name("damaged policy"), damaged, bytes.clone()));
         }
+        self.queue.extend((0..24).map(|_| shape_case(random)));
         self.queue.push_back((name("noise"), policy.clone(), noise(random)));
         self.queue.push_back((name("code"), policy.clone(), random_code(&sample.policy, random)));
         if bytes.len() <= SHORT && number.is_multiple_of(16) {

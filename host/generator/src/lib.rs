@@ -16,5 +16,6 @@ pub mod hostile;
 pub mod random;
 pub mod routine;
 pub mod search;
+pub mod shapes;
 pub mod term;
 pub mod worst;

@@ -59,8 +59,8 @@ pub fn sample(random: &mut Random, segments: usize) -> Sample {
     }
 }
 
-/// Searches a proof and takes out the atoms that have none. Nothing if the routine has no goals
-/// to be derived; the second answer is whether all are derived.
+/// Searches a proof and takes out the atoms that have none. Nothing if evaluation refuses the
+/// routine; the second answer is whether all goals are derived.
 fn prove(
     policy: &mut Policy,
     routine: &mut Routine,

@@ -6,6 +6,7 @@ use generator::case::Cases;
 use generator::goals::goals;
 use generator::random::Random;
 use generator::routine::sample;
+use generator::shapes::shape_case;
 
 #[test]
 fn proofs_are_accepted() {
@@ -96,5 +97,22 @@ fn cases_meet_every_answer() {
     }
     for number in [0, 2, 3, 4, 5, 6, 7, 8, 9, 20, 21, 22] {
         assert!(ends.contains_key(&number), "no run answers {number}");
+    }
+}
+
+#[test]
+fn single_rules_are_accepted_and_refused() {
+    let mut random = Random::new(9);
+    let mut workspace = vec![0; reference::WORKSPACE_WORDS];
+    let mut counts: BTreeMap<String, [usize; 2]> = BTreeMap::new();
+    for _ in 0..20_000 {
+        let (name, policy, package) = shape_case(&mut random);
+        let verdict = reference::check(&mut workspace, &policy, &package);
+        assert!(matches!(verdict.number, 0 | 15 | 16 | 18 | 19), "{name}: {verdict:?}");
+        counts.entry(name).or_default()[usize::from(verdict.number > 0)] += 1;
+    }
+    println!("{counts:?}");
+    for (name, [accepted, refused]) in counts {
+        assert!(accepted > 50 && refused > 50, "{name}: {accepted}, {refused}");
     }
 }
