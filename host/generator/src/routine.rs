@@ -226,7 +226,8 @@ impl<'a> Builder<'a> {
     }
 
     fn annotation(&self, note: &Note, limit: u32) -> Annotation {
-        let left = constant(limit - note.spent);
+        // inside a loop that counts down, the share makes up for what is below zero here
+        let left = constant(limit.wrapping_sub(note.spent));
         let credit = match note.share {
             None => left,
             Some(Share { register: number, times, falls }) => {
