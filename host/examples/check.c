@@ -33,7 +33,7 @@ static struct bytes read_file(const char *path)
 int main(int count, char **arguments)
 {
     static uint32_t workspace[PCC_WORKSPACE_WORDS];
-    uint64_t answer[3], found[4];
+    uint64_t answer[3], found[3];
 
     if (count != 3) {
         fprintf(stderr, "usage: check POLICY PACKAGE\n");
@@ -46,10 +46,9 @@ int main(int count, char **arguments)
               package.data, package.length, answer);
     printf("verdict=%llu place=%llu goals=%llu\n", (unsigned long long)answer[0],
            (unsigned long long)answer[1], (unsigned long long)answer[2]);
-    pcc_find_proof(package.data, package.length, found);
+    size_t length = pcc_find_proof(package.data, package.length, found);
     if (found[0] == 0)
-        printf("proof: %llu bytes at %llu\n", (unsigned long long)found[3],
-               (unsigned long long)found[2]);
+        printf("proof: %zu bytes at %llu\n", length, (unsigned long long)found[2]);
 
     free(policy.data);
     free(package.data);

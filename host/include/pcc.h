@@ -40,11 +40,11 @@ void pcc_run(const uint8_t *policy, size_t policy_len,
              uint32_t *memory, size_t memory_words,
              uint32_t budget, uint64_t answer[3]);
 
-/* Finds the proof section of a package. answer: number (0, or 7 if header or
- * length are wrong), place, the section's first byte, its length (0 after a
- * refusal). */
-void pcc_find_proof(const uint8_t *package, size_t package_len,
-                    uint64_t answer[4]);
+/* Finds the proof section of a package and gives its length (0 after a
+ * refusal). answer: number (0, or 7 if header or length are wrong), place, the
+ * section's first byte. */
+size_t pcc_find_proof(const uint8_t *package, size_t package_len,
+                      uint64_t answer[3]);
 
 #ifdef __cplusplus
 }

@@ -97,7 +97,7 @@ mod interface {
             budget: u32,
             answer: *mut u64,
         );
-        pub fn pcc_find_proof(package: *const u8, package_len: usize, answer: *mut u64);
+        pub fn pcc_find_proof(package: *const u8, package_len: usize, answer: *mut u64) -> usize;
     }
 }
 
@@ -157,13 +157,12 @@ pub fn run(
 
 /// Finds the proof section of a package that passes check 7.
 pub fn find_proof(package: &[u8]) -> Finding<'_> {
-    let mut answer = [0; 4];
-    // SAFETY: as in `check`; the answer has four words.
-    unsafe {
-        interface::pcc_find_proof(package.as_ptr(), package.len(), answer.as_mut_ptr());
-    }
-    let [number, place, start, length] = answer;
-    let (start, length) = (size(start), size(length));
+    let mut answer = [0; 3];
+    // SAFETY: as in `check`.
+    let length =
+        unsafe { interface::pcc_find_proof(package.as_ptr(), package.len(), answer.as_mut_ptr()) };
+    let [number, place, start] = answer;
+    let start = size(start);
     Finding {
         number: small(number),
         place: size(place),

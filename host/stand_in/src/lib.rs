@@ -77,15 +77,11 @@ pub unsafe extern "C" fn pcc_run(
 pub unsafe extern "C" fn pcc_find_proof(
     package: *const u8,
     package_len: usize,
-    answer: *mut [u64; 4],
-) {
+    answer: *mut [u64; 3],
+) -> usize {
     // SAFETY: the caller's.
     let (package, answer) = unsafe { (from_raw_parts(package, package_len), &mut *answer) };
     let finding = reference::find_proof(package);
-    *answer = [
-        u64::from(finding.number),
-        finding.place as u64,
-        finding.start as u64,
-        finding.length as u64,
-    ];
+    *answer = [u64::from(finding.number), finding.place as u64, finding.start as u64];
+    finding.length
 }
