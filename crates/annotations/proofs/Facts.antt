@@ -18,7 +18,7 @@ use Rattle.model.specs.Annotation.{Annotation, annotationField, annotationFrom,
 use Rattle.model.specs.declared.Header.{Header}
 use Rattle.model.specs.declared.Refusal.{Refusal}
 use Rattle.model.specs.declared.Refusal.the-variants.{BadAnnotation}
-use Rattle.routine.proofs.Results.{bound, past-check, past-stop}
+use Rattle.model.proofs.Results.{bound, past-check, past-stop}
 use Rattle.annotations.specs.declared.reading.AnnotationsAnswer.{AnnotationsAnswer}
 use Rattle.annotations.specs.declared.reading.AnnotationsAnswer.the-variants.{Passed, Refused}
 use Rattle.annotations.specs.Annotations.{annotationAtPlace, Placed, annotationsAt, Tabled, annotationsResult, TabledIfPassed, AnnotationsMet}

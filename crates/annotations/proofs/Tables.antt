@@ -16,7 +16,7 @@ use Rattle.model.specs.Annotation.{Annotation, annotationField, annotationFrom,
 use Rattle.model.specs.declared.Header.{Header}
 use Rattle.model.specs.declared.Refusal.{Refusal}
 use Rattle.model.specs.declared.Refusal.the-variants.{BadAnnotation, AnnotationBytes}
-use Rattle.routine.proofs.Results.{bound, past-check}
+use Rattle.model.proofs.Results.{bound, past-check}
 use Rattle.routine.proofs.Lists.{take-stored, map-stored, map-snoc}
 use Rattle.annotations.specs.declared.reading.AnnotationAnswer.{AnnotationAnswer}
 use Rattle.annotations.specs.declared.reading.AnnotationAnswer.the-variants as one

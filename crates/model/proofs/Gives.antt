@@ -32,6 +32,11 @@ module _ {E : Type 0} where
   gives-check false e = stops
 
   module _ {A : Type 0} where
+    -- of a value of which nothing need be known
+    pub gives-any : (r : Result E A) → Gives (λ _. Unit {0}) r
+    gives-any (stop e) = stops
+    gives-any (value a) = gives tt
+
     module _ {P : A → Type 0} where
       pub gives-map : {Q : A → Type 0} {r : Result E A} → ((a : A) → Q a → P a) → Gives Q r → Gives P r
       gives-map k stops = stops

@@ -1,4 +1,5 @@
 pub mod Lists
+pub mod Results
 pub mod Gives
 pub mod Words
 pub mod Terms

@@ -1,4 +1,3 @@
-pub mod Results
 pub mod SizesLaws
 pub mod RegionsLaws
 pub mod ConditionsLaws

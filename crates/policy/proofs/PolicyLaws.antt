@@ -23,7 +23,8 @@ use Rattle.policy.specs.declared.SizesAnswer.{SizesAnswer}
 use Rattle.policy.specs.declared.SizesAnswer.the-variants as sizes
 use Rattle.policy.specs.declared.ConditionAnswer.{ConditionAnswer}
 use Rattle.policy.specs.declared.ConditionAnswer.the-variants as condition
-use Rattle.policy.proofs.Results.{then-then, value-then, gives-value}
+use Rattle.model.proofs.Results.{then-then, value-then}
+use Rattle.model.proofs.Gives.{gives-value}
 use Rattle.policy.proofs.SizesLaws.{Sized, sized}
 use Rattle.policy.proofs.RegionsLaws.{all-end, room, ends-at}
 

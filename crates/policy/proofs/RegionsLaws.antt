@@ -18,7 +18,8 @@ use Rattle.model.specs.declared.Refusal.the-variants.{BadRegion}
 use Rattle.policy.specs.Regions.{answered, regionsResult}
 use Rattle.policy.specs.Policy.{noRegion}
 use Rattle.policy.specs.declared.PolicyAnswer.the-variants.{Passed, Refused}
-use Rattle.policy.proofs.Results.{Gives, gives, gives-then, gives-check, and-right}
+use Rattle.model.proofs.Gives.{Gives, gives, gives-then, gives-check}
+use Rattle.model.proofs.Terms.{and-right}
 
 -- what was read in front of the rest
 unfoldable pub after : List Region → Result Refusal (List Region) → Result Refusal (List Region)

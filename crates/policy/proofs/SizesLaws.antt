@@ -18,7 +18,9 @@ use Rattle.policy.specs.Sizes.{fieldResult, sizesResult, inRange, sizeBy
 use Rattle.policy.specs.declared.FieldAnswer.{FieldAnswer}
 use Rattle.policy.specs.declared.FieldAnswer.the-variants as field
 use Rattle.policy.specs.declared.SizesAnswer.the-variants as sizes
-use Rattle.policy.proofs.Results.{then-then, value-then, Gives, gives, gives-then, gives-check, gives-any, and-left, and-right}
+use Rattle.model.proofs.Results.{then-then, value-then}
+use Rattle.model.proofs.Gives.{Gives, gives, gives-then, gives-check, gives-any}
+use Rattle.model.proofs.Terms.{and-left, and-right}
 
 -- in_range
 module _ (at least most n : ℕ) where

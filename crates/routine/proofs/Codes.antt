@@ -31,7 +31,7 @@ use Rattle.routine.specs.declared.instructions.CodeAnswer.the-variants a
 use Rattle.routine.specs.declared.instructions.Line.{Line}
 use Rattle.routine.specs.Code.{decodedOf, targetOption, instructionResult, instructionAt, Formed, FormedIfPassed, InstructionRead, codeChecked, instructionsOf, codeOfLines, AllFormed, CodeMet}
 use Rattle.routine.proofs.Lists.{map-stored}
-use Rattle.routine.proofs.Results.{bind-assoc, bind-same}
+use Rattle.model.proofs.Results.{then-then, then-same}
 use Rattle.routine.proofs.Decoding.{decoded, undecoded, formed}
 
 -- the instructions that the code names none of
@@ -96,7 +96,7 @@ module _ (bytes : List ℕ) (h : Header) where
   step left index =
       let rest : Instruction → Result Refusal (List Instruction) = λ x. instructionsFrom bytes h left (index + 1) >>= λ rest. value (x ∷ rest) in
       let m : Result Refusal Instruction = stopAs (λ _. BadInstruction index) (decode (getD bytes (12 + 4 * index) 0) (getD bytes (12 + 4 * index + 1) 0) (getD bytes (12 + 4 * index + 2) 0) (getD bytes (12 + 4 * index + 3) 0) (le32 bytes (immediateStart h + 4 * index))) in
-      sym (bind-assoc m _ rest ∙ bind-same m (λ x. bind-assoc (check (targetInside (h .instructions) x) (BadTarget index)) (λ _. value x) rest))
+      sym (then-then m _ rest ∙ then-same m (λ x. then-then (check (targetInside (h .instructions) x) (BadTarget index)) (λ _. value x) rest))
 
   -- with so many instructions left, the next is x, or the refusal e ends all
   one-more : (index : ℕ) (x : Instruction) → index < h .instructions → value x ≡ instructionAt bytes h index → instructionsFrom bytes h (h .instructions - index) index ≡ (instructionsFrom bytes h (h .instructions - (index + 1)) (index + 1) >>= λ rest. value (x ∷ rest))

@@ -14,7 +14,7 @@ use Rattle.model.specs.declared.Refusal.{Refusal}
 use Rattle.model.specs.declared.Refusal.the-variants.{BadInstruction, BadTarget}
 use Rattle.routine.specs.declared.instructions.CodeAnswer.the-variants as answers
 use Rattle.routine.specs.Code.{instructionAt, Formed, codeChecked}
-use Rattle.routine.proofs.Results.{bound, past-check, past-stop}
+use Rattle.model.proofs.Results.{bound, past-check, past-stop}
 use Rattle.routine.proofs.Decoding.{formed}
 use Rattle.routine.proofs.Codes.{step}
 

@@ -1,4 +1,3 @@
-pub mod Results
 pub mod Lists
 pub mod Headers
 pub mod Decoding
