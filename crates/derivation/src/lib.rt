@@ -1,0 +1,34 @@
+// Derivations: the rules, and the checker of a derivation in prefix form.
+pub mod parts;
+pub mod rules;
+use model::Comparison;
+
+// What a goal or a premise claims; terms are nodes of the table.
+pub enum Claim {
+    Atom(Comparison, usize, usize),
+    Readable(usize),
+    Writable(usize),
+}
+
+// A claim at an instruction.
+pub struct Goal {
+    pub claim: Claim,
+    pub instruction: usize,
+}
+
+// A comparison of two nodes, to be derived.
+pub struct Premise {
+    pub kind: Comparison,
+    pub left: usize,
+    pub right: usize,
+}
+
+// What a rule asks of a claim: whether it fits, and its premises, the first `count` of three; `top` is the table's new top.
+pub struct Plan {
+    pub fits: bool,
+    pub count: usize,
+    pub first: Premise,
+    pub second: Premise,
+    pub third: Premise,
+    pub top: usize,
+}

@@ -1,0 +1,336 @@
+// The rules: what each asks of a claim. A rule's new nodes stand from the table's top on, at most four of them.
+use crate::Claim;
+use crate::Plan;
+use crate::Premise;
+use crate::parts;
+use crate::parts::Pair;
+use crate::parts::Quadruple;
+use model::Comparison;
+use terms::Closed;
+ghost use mathlib.Core.Path.{_≡_};
+ghost use mathlib.Core.Bool.{true, false};
+ghost use mathlib.Core.List.{List};
+ghost use Prim.Native.Nat.{ℕ, suc, _<_};
+ghost use Rattle.model.specs.Goals.{Claim as Claimed};
+ghost use Rattle.model.specs.Rule.{evaluation, congruence, zero-at-most, sum-monotone, difference-monotone, successor-at-most, below-successor, sum-no-overflow, less-of-at-most, contradiction};
+ghost use Rattle.terms.specs.Table.{termAt, Formed, Space};
+ghost use Rattle.derivation.specs.Parts.{claimOf, ClaimBelow};
+ghost use Rattle.derivation.specs.Plan.{plan, blank, Anywhere, always, asks, Planned, reflexivePremises, symmetricPremises, throughPremises, otherPremises};
+
+// ---- plans
+
+// A comparison of two nodes.
+fn compared(kind: Comparison, left: usize, right: usize) -> Premise
+    ensures { λ r. ⌜ r ≡ record { kind = kind; left = left; right = right } ⌝ }
+{
+    Premise { kind, left, right }
+}
+
+// A plan with no premise.
+fn without_premise(fits: bool, top: usize) -> Plan
+    ensures { λ r. ⌜ r ≡ plan fits 0 blank blank blank top ⌝ }
+{
+    let blank = Premise {
+        kind: Comparison::Equal,
+        left: 0,
+        right: 0,
+    };
+    Plan {
+        fits,
+        count: 0,
+        first: blank,
+        second: blank,
+        third: blank,
+        top,
+    }
+}
+
+// The rule does not fit.
+fn unfit(top: usize) -> Plan
+    ensures { λ r. ⌜ r ≡ plan false 0 blank blank blank top ⌝ }
+{
+    without_premise(false, top)
+}
+
+// The rule fits, with no premise.
+fn none(top: usize) -> Plan
+    ensures { λ r. ⌜ r ≡ plan true 0 blank blank blank top ⌝ }
+{
+    without_premise(true, top)
+}
+
+// One premise.
+fn one(a: Premise, top: usize) -> Plan
+    ensures { λ r. ⌜ r ≡ plan true 1 a a a top ⌝ }
+{
+    Plan {
+        fits: true,
+        count: 1,
+        first: a,
+        second: a,
+        third: a,
+        top,
+    }
+}
+
+// Two premises.
+fn two(a: Premise, b: Premise, top: usize) -> Plan
+    ensures { λ r. ⌜ r ≡ plan true 2 a b b top ⌝ }
+{
+    Plan {
+        fits: true,
+        count: 2,
+        first: a,
+        second: b,
+        third: b,
+        top,
+    }
+}
+
+// Three premises.
+fn three(a: Premise, b: Premise, c: Premise, top: usize) -> Plan
+    ensures { λ r. ⌜ r ≡ plan true 3 a b c top ⌝ }
+{
+    Plan {
+        fits: true,
+        count: 3,
+        first: a,
+        second: b,
+        third: c,
+        top,
+    }
+}
+
+// ---- the rules
+
+// Rules 1 and 2: a = a, a ≤ a.
+fn reflexive(ws: &[u32], claim: Claim, kind: Comparison, top: usize) -> Plan
+    requires { ⌜ Formed (now ws) top ⌝ }
+    requires { ⌜ ClaimBelow top claim ⌝ }
+    ensures { λ r. ⌜ Planned Anywhere (always (reflexivePremises kind (claimOf (now (ws .entry)) claim))) (now (ws .entry)) (now (ws .entry)) top r ⌝ }
+{
+    let Pair::Nodes(a, b) = parts::sides(claim, kind) else {
+        return unfit(top);
+    };
+    if terms::same(ws, a, b) {
+        none(top)
+    } else {
+        unfit(top)
+    }
+}
+
+// Rule 3: any atom without variables, true by evaluation.
+fn evaluated(ws: &[u32], claim: Claim, top: usize) -> Plan
+    requires { ⌜ Formed (now ws) top ⌝ }
+    requires { ⌜ ClaimBelow top claim ⌝ }
+    ensures { λ r. ⌜ Planned Anywhere (asks evaluation (claimOf (now (ws .entry)) claim)) (now (ws .entry)) (now (ws .entry)) top r ⌝ }
+{
+    let Claim::Atom(kind, left, right) = claim else {
+        return unfit(top);
+    };
+    let Closed::Value(a) = terms::evaluate(ws, left) else {
+        return unfit(top);
+    };
+    let Closed::Value(b) = terms::evaluate(ws, right) else {
+        return unfit(top);
+    };
+    if parts::holds(kind, a, b) {
+        none(top)
+    } else {
+        unfit(top)
+    }
+}
+
+// Rules 4 and 21: a = b from b = a, a ≠ b from b ≠ a.
+fn symmetric(claim: Claim, kind: Comparison, top: usize) -> Plan
+    requires { ⌜ ClaimBelow top claim ⌝ }
+    ensures { λ r. ⌜ ((ws : List ℕ) → Formed ws top → Planned Anywhere (always (symmetricPremises kind (claimOf ws claim))) ws ws top r) ⌝ }
+{
+    let Pair::Nodes(a, b) = parts::sides(claim, kind) else {
+        return unfit(top);
+    };
+    one(compared(kind, b, a), top)
+}
+
+// Rules 5 to 8: a claim of the kind `whole` from a ~ m of the kind `first` and m ~ c of the kind `second`.
+fn through(claim: Claim, whole: Comparison, first: Comparison, second: Comparison, m: usize, top: usize) -> Plan
+    requires { ⌜ ClaimBelow top claim ⌝ }
+    requires { ⌜ m < top ⌝ }
+    ensures { λ r. ⌜ ((ws : List ℕ) → Formed ws top → Planned Anywhere (always (throughPremises whole first second (termAt ws m) (claimOf ws claim))) ws ws top r) ⌝ }
+{
+    let Pair::Nodes(a, c) = parts::sides(claim, whole) else {
+        return unfit(top);
+    };
+    two(compared(first, a, m), compared(second, m, c), top)
+}
+
+// Rules 9, 10 and 20: a claim of the kind `whole` from one of another kind, of the same sides.
+fn of_other_kind(claim: Claim, whole: Comparison, other: Comparison, top: usize) -> Plan
+    requires { ⌜ ClaimBelow top claim ⌝ }
+    ensures { λ r. ⌜ ((ws : List ℕ) → Formed ws top → Planned Anywhere (always (otherPremises whole other (claimOf ws claim))) ws ws top r) ⌝ }
+{
+    let Pair::Nodes(a, b) = parts::sides(claim, whole) else {
+        return unfit(top);
+    };
+    one(compared(other, a, b), top)
+}
+
+// Rule 11: a+b = c+d, or a-b = c-d, from a = c, b = d.
+fn congruent(ws: &[u32], claim: Claim, top: usize) -> Plan
+    requires { ⌜ Formed (now ws) top ⌝ }
+    requires { ⌜ ClaimBelow top claim ⌝ }
+    ensures { λ r. ⌜ Planned Anywhere (asks congruence (claimOf (now (ws .entry)) claim)) (now (ws .entry)) (now (ws .entry)) top r ⌝ }
+{
+    let Pair::Nodes(left, right) = parts::sides(claim, Comparison::Equal) else {
+        return unfit(top);
+    };
+    let Quadruple::Nodes(a, b, c, d) = parts::same_operation(ws, left, right) else {
+        return unfit(top);
+    };
+    two(
+        compared(Comparison::Equal, a, c),
+        compared(Comparison::Equal, b, d),
+        top,
+    )
+}
+
+// Rule 13: 0 ≤ a.
+fn from_zero(ws: &[u32], claim: Claim, top: usize) -> Plan
+    requires { ⌜ Formed (now ws) top ⌝ }
+    requires { ⌜ ClaimBelow top claim ⌝ }
+    ensures { λ r. ⌜ Planned Anywhere (asks zero-at-most (claimOf (now (ws .entry)) claim)) (now (ws .entry)) (now (ws .entry)) top r ⌝ }
+{
+    let Pair::Nodes(zero, _) = parts::sides(claim, Comparison::AtMost) else {
+        return unfit(top);
+    };
+    if parts::is_constant(ws, zero, 0) {
+        none(top)
+    } else {
+        unfit(top)
+    }
+}
+
+// Rule 14: a+b ≤ c+d from a ≤ c, b ≤ d, c ≤ c+d.
+fn sums(ws: &[u32], claim: Claim, top: usize) -> Plan
+    requires { ⌜ Formed (now ws) top ⌝ }
+    requires { ⌜ ClaimBelow top claim ⌝ }
+    ensures { λ r. ⌜ Planned Anywhere (asks sum-monotone (claimOf (now (ws .entry)) claim)) (now (ws .entry)) (now (ws .entry)) top r ⌝ }
+{
+    let Pair::Nodes(left, right) = parts::sides(claim, Comparison::AtMost) else {
+        return unfit(top);
+    };
+    let Pair::Nodes(a, b) = parts::sum_operands(ws, left) else {
+        return unfit(top);
+    };
+    let Pair::Nodes(c, d) = parts::sum_operands(ws, right) else {
+        return unfit(top);
+    };
+    three(
+        compared(Comparison::AtMost, a, c),
+        compared(Comparison::AtMost, b, d),
+        compared(Comparison::AtMost, c, right),
+        top,
+    )
+}
+
+// Rule 15: a-b ≤ c-d from a ≤ c, d ≤ b, b ≤ a.
+fn differences(ws: &[u32], claim: Claim, top: usize) -> Plan
+    requires { ⌜ Formed (now ws) top ⌝ }
+    requires { ⌜ ClaimBelow top claim ⌝ }
+    ensures { λ r. ⌜ Planned Anywhere (asks difference-monotone (claimOf (now (ws .entry)) claim)) (now (ws .entry)) (now (ws .entry)) top r ⌝ }
+{
+    let Pair::Nodes(left, right) = parts::sides(claim, Comparison::AtMost) else {
+        return unfit(top);
+    };
+    let Pair::Nodes(a, b) = parts::difference_operands(ws, left) else {
+        return unfit(top);
+    };
+    let Pair::Nodes(c, d) = parts::difference_operands(ws, right) else {
+        return unfit(top);
+    };
+    three(
+        compared(Comparison::AtMost, a, c),
+        compared(Comparison::AtMost, d, b),
+        compared(Comparison::AtMost, b, a),
+        top,
+    )
+}
+
+// Rule 16: a+1 ≤ b from a < b.
+fn successor(ws: &[u32], claim: Claim, top: usize) -> Plan
+    requires { ⌜ Formed (now ws) top ⌝ }
+    requires { ⌜ ClaimBelow top claim ⌝ }
+    ensures { λ r. ⌜ Planned Anywhere (asks successor-at-most (claimOf (now (ws .entry)) claim)) (now (ws .entry)) (now (ws .entry)) top r ⌝ }
+{
+    let Pair::Nodes(left, b) = parts::sides(claim, Comparison::AtMost) else {
+        return unfit(top);
+    };
+    let Pair::Nodes(a, unit) = parts::sum_operands(ws, left) else {
+        return unfit(top);
+    };
+    if parts::is_constant(ws, unit, 1) {
+        one(compared(Comparison::Less, a, b), top)
+    } else {
+        unfit(top)
+    }
+}
+
+// Rule 17: a ≤ b from a < b+1. Two new nodes.
+fn within_successor(ws: &mut [u32], claim: Claim, top: usize) -> Plan
+    requires { ⌜ Formed (now ws) top ⌝ }
+    requires { ⌜ Space (now ws) top 4 ⌝ }
+    requires { ⌜ ClaimBelow top claim ⌝ }
+    ensures { λ r. ⌜ Planned Anywhere (asks below-successor (claimOf (now (ws .entry)) claim)) (now (ws .entry)) (now (ws .exit)) top r ⌝ }
+{
+    let Pair::Nodes(a, b) = parts::sides(claim, Comparison::AtMost) else {
+        return unfit(top);
+    };
+    terms::put_constant(ws, top, 1);
+    terms::put_sum(ws, top + 1, b, top);
+    one(compared(Comparison::Less, a, top + 1), top + 2)
+}
+
+// Rule 18: a ≤ a+b from a ≤ 4294967295-b. Two new nodes.
+fn no_overflow(ws: &mut [u32], claim: Claim, top: usize) -> Plan
+    requires { ⌜ Formed (now ws) top ⌝ }
+    requires { ⌜ Space (now ws) top 4 ⌝ }
+    requires { ⌜ ClaimBelow top claim ⌝ }
+    ensures { λ r. ⌜ Planned Anywhere (asks sum-no-overflow (claimOf (now (ws .entry)) claim)) (now (ws .entry)) (now (ws .exit)) top r ⌝ }
+{
+    let Pair::Nodes(a, right) = parts::sides(claim, Comparison::AtMost) else {
+        return unfit(top);
+    };
+    let Pair::Nodes(p, b) = parts::sum_operands(ws, right) else {
+        return unfit(top);
+    };
+    if terms::same(ws, a, p) {
+        terms::put_constant(ws, top, 4294967295);
+        terms::put_difference(ws, top + 1, top, b);
+        one(compared(Comparison::AtMost, a, top + 1), top + 2)
+    } else {
+        unfit(top)
+    }
+}
+
+// Rule 19: a < b from a ≤ b, a ≠ b.
+fn strict(claim: Claim, top: usize) -> Plan
+    requires { ⌜ ClaimBelow top claim ⌝ }
+    ensures { λ r. ⌜ ((ws : List ℕ) → Formed ws top → Planned Anywhere (asks less-of-at-most (claimOf ws claim)) ws ws top r) ⌝ }
+{
+    let Pair::Nodes(a, b) = parts::sides(claim, Comparison::Less) else {
+        return unfit(top);
+    };
+    two(
+        compared(Comparison::AtMost, a, b),
+        compared(Comparison::Unequal, a, b),
+        top,
+    )
+}
+
+// Rule 24: any claim from m < m.
+fn contradicted(m: usize, top: usize) -> Plan
+    requires { ⌜ m < top ⌝ }
+    ensures { λ r. ⌜ ((ws : List ℕ) → Formed ws top → (c : Claimed) → Planned Anywhere (asks (contradiction (termAt ws m)) c) ws ws top r) ⌝ }
+{
+    one(compared(Comparison::Less, m, m), top)
+}
