@@ -1,17 +1,22 @@
 -- Laws of the rules: one for each way out of the code. Assumes nothing.
 use mathlib.Core.Path.{_≡_, refl, sym, ap, ap₂, subst, _∙_}
+use mathlib.Core.Logic.{_⊎_}
 use mathlib.Core.Bool.{Bool, true, false, _&&_}
+use mathlib.Core.Option.{Option, none, some}
 use mathlib.Core.List.{List, [], _∷_}
-use Prim.Native.Nat.{ℕ, suc, _+_, _<_, _≤_}
+use Prim.Native.Nat.{ℕ, zero, suc, _+_, _<_, _≤_}
 use native.Mathlib.Omega.{arith}
-use lib.ListN.{length}
-use Rattle.model.specs.Result.{Result, Fit, misfit, stop, value, _>>=_, check}
+use lib.ListN.{length, getElem?}
+use denote.Enum.Declared.{tagOf as variant, declared}
+use Rattle.model.specs.Result.{Result, Fit, misfit, stop, value, _>>=_, check, found}
 use Rattle.model.specs.Term.{Term, constant, variable, sum, difference, eqTerm, closed, eval}
 use Rattle.model.specs.Atom.{Atom, compares, holds}
 use Rattle.model.specs.Policy.{Policy}
 use Rattle.model.specs.Goals.{Goal, Claim as Claimed}
-use Rattle.model.specs.Rule.{Rule, atomOf, sidesOf, sumOf, differenceOf, operandsOf, premises}
-use Rattle.model.specs.Rule.{evaluation, congruence, zero-at-most, sum-monotone, difference-monotone, successor-at-most, below-successor, sum-no-overflow, less-of-at-most, contradiction}
+use Rattle.model.specs.Rule.{Rule, atomOf, sidesOf, readableOf, writableOf, sumOf, differenceOf, operandsOf, regionPremises, premises}
+use Rattle.model.specs.Rule.{evaluation, congruence, linear, zero-at-most, sum-monotone, difference-monotone, successor-at-most, below-successor, sum-no-overflow, less-of-at-most, in-readable-region, in-writable-region, contradiction}
+use Rattle.model.specs.Linear.{sameForm}
+use Rattle.model.proofs.Gives.{gives-value}
 use Rattle.model.specs.declared.Comparison.{Comparison}
 use Rattle.model.specs.declared.Comparison.the-variants.{Equal, Unequal, Less, AtMost}
 use Rattle.terms.specs.Workspace.{tableBase, Same}
@@ -19,11 +24,18 @@ use Rattle.terms.specs.Table.{place, termAt, Formed, Space, Put}
 use Rattle.terms.specs.Closed.{valueIf, closedValue}
 use Rattle.terms.specs.declared.Closed.{Closed}
 use Rattle.terms.specs.declared.Closed.the-variants.{Value, Open}
+use Rattle.linear.specs.Area.{Comparable}
+use Rattle.linear.specs.Comparison.{comparisonOf}
+use Rattle.linear.specs.declared.FormComparison.{FormComparison}
+use Rattle.linear.specs.declared.FormComparison.the-variants.{Same as SameForm, Different}
 use Rattle.terms.proofs.Frames.{same-refl, same-trans, same-within}
 use Rattle.terms.proofs.Table.{term-same, formed-less}
 use Rattle.derivation.proofs.PartLaws.{Access, neither}
-use Rattle.derivation.specs.Parts.{claimOf, ClaimBelow, Sides, Operands, FourOperands}
-use Rattle.derivation.specs.Plan.{premise, blank, plan, atomIn, PremiseBelow, Grows, Planned, Anywhere, asks, always, reflexivePremises, symmetricPremises, throughPremises, otherPremises}
+use Rattle.derivation.proofs.BoundLaws.{sides-bounded}
+use Rattle.derivation.proofs.Claim.{enum as claim-enum}
+use Rattle.derivation.specs.Parts.{claimOf, ClaimBelow, Linear, Sides, Operands, FourOperands}
+use Rattle.derivation.specs.Plan.{premise, blank, plan, atomIn, PremiseBelow, Grows, Planned, Anywhere, asks, always, reflexivePremises, symmetricPremises, throughPremises, otherPremises, inRegion}
+use Rattle.derivation.specs.Regions.{regionIn, regionsFrom, regionsOf, may, Over}
 use Rattle.derivation.specs.declared.Claim.{Claim}
 use Rattle.derivation.specs.declared.Claim.the-variants.{Atom as AtomClaim, Readable, Writable}
 use Rattle.derivation.specs.declared.Premise.{Premise}
@@ -66,8 +78,8 @@ four-told {ws} {i} {j} o e = subst (FourOperands ws i j) e o
 pub formed-at : {ws : List ℕ} {top i : ℕ} → Formed ws top → i < top → Formed ws (suc i)
 formed-at f h = formed-less _ h f
 
-pub atom-below : {claim : Claim} {kind : Comparison} {l r top : ℕ} → claim ≡ AtomClaim kind l r → ClaimBelow top claim → (l < top) × (r < top)
-atom-below {top = top} e i = subst (ClaimBelow top) e i
+pub told-below : (top : ℕ) {claim q : Claim} → claim ≡ q → ClaimBelow top claim → ClaimBelow top q
+told-below top e i = subst (ClaimBelow top) e i
 
 -- ---- plans
 pub stays : {ws : List ℕ} {top : ℕ} → Formed ws top → Grows ws ws top top
@@ -292,9 +304,12 @@ module _ {ws : List ℕ} {top : ℕ} {claim : Claim} (f : Formed ws top) (i : Cl
 
 -- ---- two new nodes
 -- what the second asks once the first is put
-pub put-asks : {ws us : List ℕ} {top : ℕ} {t : Term} (l r : ℕ) → Space ws top 4 → Put ws us top t → length us ≡ length ws → l < top + 1 → r < top + 1
-    → Formed us (top + 1) × (Space us (top + 1) 1 × ((l < top + 1) × (r < top + 1)))
-put-asks {top = top} l r s x e h k = (formed-less (top + 1) (omega arith) (x .formed), (record { words = omega (arith, s .words); fits = omega (arith, s .fits) }, (h, k)))
+module _ {ws us : List ℕ} {top : ℕ} {t : Term} (s : Space ws top 4) (x : Put ws us top t) (e : length us ≡ length ws) where
+  pub put-asks : Formed us (top + 1) × Space us (top + 1) 1
+  put-asks = (formed-less (top + 1) (omega arith) (x .formed), record { words = omega (arith, s .words); fits = omega (arith, s .fits) })
+
+  pub put-asks-parts : (l r : ℕ) → l < top + 1 → r < top + 1 → Formed us (top + 1) × (Space us (top + 1) 1 × ((l < top + 1) × (r < top + 1)))
+  put-asks-parts l r h k = (put-asks .0, (put-asks .1, (h, k)))
 
 module _ {ws us vs : List ℕ} {top : ℕ} {m n : Term} (x : Put ws us top m) (y : Put us vs (top + 1) n) where
   pub two-put : Grows ws vs top (top + 2)
@@ -339,3 +354,113 @@ module _ {ws : List ℕ} {top : ℕ} {claim : Claim} (f : Formed ws top) {a b : 
   pub no-overflow-differs : {q t : ℕ} {x : Bool} → Operands ws b (Nodes q t) (sumOf (termAt ws b)) → x ≡ eqTerm (termAt ws a) (termAt ws q) → x ≡ false → Unfit top p → Planned Anywhere (asks sum-no-overflow (claimOf ws claim)) ws ws top p
   unfolding premises
   no-overflow-differs o h k e = misfits (stays f) e (λ policy g _. goes-on _ (s .is ws) (goes-on _ (o .is) (check-fails _ _ (sym h ∙ k))))
+
+-- ---- rule 12
+form-test : {x : FormComparison} (test : Bool) → x ≡ comparisonOf test → (x ≡ SameForm → test ≡ true) × (x ≡ Different → test ≡ false)
+form-test true h = (λ e. refl, λ e. let z : _≡_ {A = ℕ} 0 1 = cc in absurd (omega arith))
+form-test false h = (λ e. let z : _≡_ {A = ℕ} 0 1 = cc in absurd (omega arith), λ e. refl)
+
+module _ {ws : List ℕ} {top : ℕ} {claim : Claim} (f : Formed ws top) {a b : ℕ} (s : Sides Equal claim (Nodes a b)) where
+  pub comparable : {variables : ℕ} → ClaimBelow top claim → Linear ws variables claim → Comparable ws a b variables
+  comparable i l =
+      let j = s .below top i in
+      let k = gives-value (sym (s .is ws)) (sides-bounded _ Equal (claimOf ws claim) (l .bounded)) in
+      record { few = l .most; left = record { formed = formed-at f (j .0); within = k .0 }; right = record { formed = formed-at f (j .1); within = k .1 }; cleared = l .cleared }
+
+  module _ {us : List ℕ} (u : us ≡ ws) {x : FormComparison} (h : x ≡ comparisonOf (sameForm (termAt ws a) (termAt ws b))) {p : Plan} where
+    pub linear-fits : x ≡ SameForm → p ≡ plan true 0 blank blank blank top → Planned Anywhere (asks linear (claimOf ws claim)) ws us top p
+    unfolding premises
+    linear-fits t e = rw u (fits-none (stays f) e (λ policy g _. goes-on _ (s .is ws) (check-passes _ _ (form-test _ h .0 t) refl)))
+
+    pub linear-differs : x ≡ Different → Unfit top p → Planned Anywhere (asks linear (claimOf ws claim)) ws us top p
+    unfolding premises
+    linear-differs t e = rw u (misfits (stays f) e (λ policy g _. goes-on _ (s .is ws) (check-fails _ _ (form-test _ h .1 t))))
+
+-- ---- rules 22 and 23
+module _ {E A : Type 0} {o : Option A} (e : E) where
+  pub not-found : o ≡ none → stop e ≡ found o e
+  unfolding found
+  not-found h = rw h
+
+  pub is-found : {a : A} → o ≡ some a → value a ≡ found o e
+  unfolding found
+  is-found h = rw h
+
+module _ (words : List ℕ) where
+  region-from : (left j i : ℕ) → i < left → getElem? (regionsFrom words left j) i ≡ some (regionIn words (j + i))
+  unfolding regionsFrom
+  region-from zero j i h = absurd (omega arith)
+  region-from (suc left) j zero h = ap (λ k. some (regionIn words k)) (omega arith)
+  region-from (suc left) j (suc i) h = region-from left (j + 1) i (omega arith) ∙ ap (λ k. some (regionIn words k)) (omega arith)
+
+  no-region-from : (left j i : ℕ) → left ≤ i → getElem? (regionsFrom words left j) i ≡ none
+  unfolding regionsFrom
+  no-region-from zero j i h = refl
+  no-region-from (suc left) j zero h = absurd (omega arith)
+  no-region-from (suc left) j (suc i) h = no-region-from left (j + 1) i (omega arith)
+
+  is-region : {count j : ℕ} → j < count → getElem? (regionsOf words count) j ≡ some (regionIn words j)
+  is-region {count} {j} h = region-from count 0 j h ∙ ap (λ k. some (regionIn words k)) (omega arith)
+
+module _ (words : List ℕ) {ws : List ℕ} {count j top : ℕ} (right : ℕ) {p : Plan} where
+  pub region-none : (t : Term) → Formed ws top → count ≤ j → Unfit top p → Planned (Over (regionsOf words count)) (inRegion right j t) ws ws top p
+  unfolding regionPremises
+  region-none t f h e = misfits (stays f) e (λ policy g o. stops _ (not-found misfit (ap (λ l. getElem? l j) o ∙ no-region-from words count 0 j h)))
+
+  pub region-without : (t : Term) → Formed ws top → j < count → may right (regionIn words j) ≡ false → Unfit top p → Planned (Over (regionsOf words count)) (inRegion right j t) ws ws top p
+  unfolding regionPremises
+  region-without t f h k e = misfits (stays f) e (λ policy g o. goes-on _ (is-found misfit (ap (λ l. getElem? l j) o ∙ is-region words h)) (check-fails _ _ k))
+
+  pub region-fits : {us vs : List ℕ} {t : ℕ} {x y : Premise} → t < top → j < count → may right (regionIn words j) ≡ true
+      → Put ws us top (constant (regionIn words j .base)) → Put us vs (top + 1) (constant (regionIn words j .base + regionIn words j .size))
+      → x ≡ premise AtMost top t → y ≡ premise Less t (top + 1) → p ≡ plan true 2 x y y (top + 2) → Planned (Over (regionsOf words count)) (inRegion right j (termAt ws t)) ws vs top p
+  unfolding regionPremises
+  region-fits i h k m n d1 d2 e =
+      fits-two (two-put m n) d1 (omega arith) d2 (omega arith) e
+      (λ policy g o.
+      goes-on _ (is-found misfit (ap (λ l. getElem? l j) o ∙ is-region words h))
+      (check-passes _ _ k (rw (first-is m n, n .is, kept-term (two-put m n .kept) i))))
+
+-- a plan says what is asked elsewhere too, where that is the same
+pub says-as : {Where There : Policy → Goal → Type 0} {asked other : Policy → Goal → Fit (List Atom)} {ws us : List ℕ} {top : ℕ} {p : Plan} → Planned Where asked ws us top p
+    → ((policy : Policy) (g : Goal) → There policy g → Where policy g × (asked policy g ≡ other policy g)) → Planned There other ws us top p
+says-as q k = record {
+  says = λ policy g h. q .says policy g (k policy g h .0) ∙ k policy g h .1;
+  grows = q .grows;
+  first = q .first;
+  second = q .second;
+  third = q .third;
+}
+
+abbrev variant-of : Claim → ℕ
+variant-of claim = variant (declared claim-enum) claim
+
+not-readable : (ws : List ℕ) (claim : Claim) → (variant-of claim ≡ 0) ⊎ (variant-of claim ≡ 2) → stop misfit ≡ readableOf (claimOf ws claim)
+unfolding readableOf
+not-readable ws (AtomClaim own left right) o = refl
+not-readable ws (Readable t) o = neither (omega arith) (omega arith) o
+not-readable ws (Writable t) o = refl
+
+not-writable : (ws : List ℕ) (claim : Claim) → (variant-of claim ≡ 0) ⊎ (variant-of claim ≡ 1) → stop misfit ≡ writableOf (claimOf ws claim)
+unfolding writableOf
+not-writable ws (AtomClaim own left right) o = refl
+not-writable ws (Readable t) o = refl
+not-writable ws (Writable t) o = neither (omega arith) (omega arith) o
+
+module _ {Where : Policy → Goal → Type 0} {ws : List ℕ} {top : ℕ} (claim : Claim) (j : ℕ) {p : Plan} where
+  pub readable-other : Formed ws top → (variant-of claim ≡ 0) ⊎ (variant-of claim ≡ 2) → Unfit top p → Planned Where (asks (in-readable-region j) (claimOf ws claim)) ws ws top p
+  unfolding premises
+  readable-other f o e = misfits (stays f) e (λ policy g _. stops _ (not-readable ws claim o))
+
+  pub writable-other : Formed ws top → (variant-of claim ≡ 0) ⊎ (variant-of claim ≡ 1) → Unfit top p → Planned Where (asks (in-writable-region j) (claimOf ws claim)) ws ws top p
+  unfolding premises
+  writable-other f o e = misfits (stays f) e (λ policy g _. stops _ (not-writable ws claim o))
+
+module _ {Where : Policy → Goal → Type 0} {ws us : List ℕ} {top : ℕ} (j : ℕ) {t : ℕ} {claim : Claim} {p : Plan} where
+  pub readable-in : claim ≡ Readable t → Planned Where (inRegion 1 j (termAt ws t)) ws us top p → Planned Where (asks (in-readable-region j) (claimOf ws claim)) ws us top p
+  unfolding premises readableOf _>>=_
+  readable-in e q = says-as q (λ policy g h. (h, rw e))
+
+  pub writable-in : claim ≡ Writable t → Planned Where (inRegion 2 j (termAt ws t)) ws us top p → Planned Where (asks (in-writable-region j) (claimOf ws claim)) ws us top p
+  unfolding premises writableOf _>>=_
+  writable-in e q = says-as q (λ policy g h. (h, rw e))

@@ -1,15 +1,18 @@
 -- Claims and terms taken apart, in terms of the term table. Assumes nothing.
 use mathlib.Core.Path.{_≡_}
 use mathlib.Core.List.{List}
-use Prim.Native.Nat.{ℕ, _<_}
+use Prim.Native.Nat.{ℕ, _<_, _≤_}
 use Rattle.model.specs.Result.{Fit, misfit, stop, value}
 use Rattle.model.specs.Term.{Term}
+use Rattle.model.specs.Atom.{Atom}
+use Rattle.model.specs.Linear.{variableBound}
 use Rattle.model.specs.Rule.{sidesOf, operandsOf}
 use Rattle.model.specs.Goals.{Claim as Claimed, atom, readable, writable}
 use Rattle.model.specs.declared.Comparison.{Comparison}
 use Rattle.terms.specs.Table.{termAt}
+use Rattle.linear.specs.Area.{constantWord, Cleared}
 use Rattle.derivation.specs.declared.Claim.{Claim}
-use Rattle.derivation.specs.declared.Claim.the-variants.{Atom, Readable, Writable}
+use Rattle.derivation.specs.declared.Claim.the-variants.{Atom as AtomClaim, Readable, Writable}
 use Rattle.derivation.specs.declared.parts.Pair.{Pair}
 use Rattle.derivation.specs.declared.parts.Pair.the-variants.{Nodes, Misfit}
 use Rattle.derivation.specs.declared.parts.Quadruple.{Quadruple}
@@ -17,15 +20,30 @@ use Rattle.derivation.specs.declared.parts.Quadruple.the-variants.{Nodes
 
 -- the claim that the words ws say
 abbrev pub claimOf : List ℕ → Claim → Claimed
-claimOf ws (Atom kind left right) = atom (record { kind = kind; left = termAt ws left; right = termAt ws right })
+claimOf ws (AtomClaim kind left right) = atom (record { kind = kind; left = termAt ws left; right = termAt ws right })
 claimOf ws (Readable t) = readable (termAt ws t)
 claimOf ws (Writable t) = writable (termAt ws t)
 
 -- the claim's nodes are below top
 abbrev pub ClaimBelow : (top : ℕ) → Claim → Type 0
-ClaimBelow top (Atom kind left right) = (left < top) × (right < top)
+ClaimBelow top (AtomClaim kind left right) = (left < top) × (right < top)
 ClaimBelow top (Readable t) = t < top
 ClaimBelow top (Writable t) = t < top
+
+-- the variables of an atom, of a claim, are among the first n
+abbrev pub AtomBounded : (n : ℕ) → Atom → Type 0
+AtomBounded n a = (variableBound (a .left) ≤ n) × (variableBound (a .right) ≤ n)
+
+abbrev pub ClaimBounded : (n : ℕ) → Claimed → Type 0
+ClaimBounded n (atom a) = AtomBounded n a
+ClaimBounded n (readable t) = variableBound t ≤ n
+ClaimBounded n (writable t) = variableBound t ≤ n
+
+-- what linear forms need: few variables, those of the claim among them, and the coefficients' area free
+pub record Linear (ws : List ℕ) (variables : ℕ) (claim : Claim) : Type 0 where
+  pub most : variables ≤ constantWord
+  pub bounded : ClaimBounded variables (claimOf ws claim)
+  pub cleared : Cleared ws
 
 -- the two terms that the words ws say
 abbrev pub pairOf : List ℕ → Pair → Fit (Term × Term)

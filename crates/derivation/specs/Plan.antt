@@ -1,19 +1,19 @@
 -- What a rule asks of a claim, in terms of the term table. Assumes nothing.
 use mathlib.Core.Path.{_≡_}
-use mathlib.Core.Bool.{Bool, true, false, _||_}
+use mathlib.Core.Bool.{Bool, true, false}
 use mathlib.Core.List.{List, [], _∷_}
 use Prim.Native.Nat.{ℕ, zero, suc, _+_, _<_, _≤_}
-use lib.Dec.{eqb}
 use Rattle.model.specs.Result.{Fit, misfit, stop, value, _>>=_, check}
 use Rattle.model.specs.Term.{Term, eqTerm}
 use Rattle.model.specs.Atom.{Atom}
 use Rattle.model.specs.Policy.{Policy}
 use Rattle.model.specs.Goals.{Goal, Claim as Claimed}
-use Rattle.model.specs.Rule.{Rule, sidesOf, premises}
+use Rattle.model.specs.Rule.{Rule, sidesOf, regionPremises, premises}
 use Rattle.model.specs.declared.Comparison.{Comparison}
 use Rattle.model.specs.declared.Comparison.the-variants.{Equal}
 use Rattle.terms.specs.Workspace.{Same}
 use Rattle.terms.specs.Table.{place, termAt, Formed}
+use Rattle.derivation.specs.Regions.{may}
 use Rattle.derivation.specs.declared.Premise.{Premise}
 use Rattle.derivation.specs.declared.Plan.{Plan}
 
@@ -108,3 +108,7 @@ unfoldable pub otherPremises : (whole other : Comparison) → Claimed → Fit (L
 otherPremises whole other c = do
   (a, b) ← sidesOf whole c
   value (record { kind = other; left = a; right = b } ∷ [])
+
+-- 22, 23: t lies in region j, which has the right
+abbrev pub inRegion : (right j : ℕ) → Term → Policy → Goal → Fit (List Atom)
+inRegion right j t policy g = regionPremises policy (may right) j t

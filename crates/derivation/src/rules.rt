@@ -5,6 +5,7 @@ use crate::Premise;
 use crate::parts;
 use crate::parts::Pair;
 use crate::parts::Quadruple;
+use linear::FormComparison;
 use model::Comparison;
 use terms::Closed;
 ghost use mathlib.Core.Path.{_≡_};
@@ -12,10 +13,11 @@ ghost use mathlib.Core.Bool.{true, false};
 ghost use mathlib.Core.List.{List};
 ghost use Prim.Native.Nat.{ℕ, suc, _<_};
 ghost use Rattle.model.specs.Goals.{Claim as Claimed};
-ghost use Rattle.model.specs.Rule.{evaluation, congruence, zero-at-most, sum-monotone, difference-monotone, successor-at-most, below-successor, sum-no-overflow, less-of-at-most, contradiction};
+ghost use Rattle.model.specs.Rule.{evaluation, congruence, linear, zero-at-most, sum-monotone, difference-monotone, successor-at-most, below-successor, sum-no-overflow, less-of-at-most, in-readable-region, in-writable-region, contradiction};
 ghost use Rattle.terms.specs.Table.{termAt, Formed, Space};
-ghost use Rattle.derivation.specs.Parts.{claimOf, ClaimBelow};
-ghost use Rattle.derivation.specs.Plan.{plan, blank, Anywhere, always, asks, Planned, reflexivePremises, symmetricPremises, throughPremises, otherPremises};
+ghost use Rattle.derivation.specs.Parts.{claimOf, ClaimBelow, Linear};
+ghost use Rattle.derivation.specs.Regions.{regionsOf, RegionWords, Over};
+ghost use Rattle.derivation.specs.Plan.{plan, blank, Anywhere, always, asks, Planned, reflexivePremises, symmetricPremises, throughPremises, otherPremises, inRegion};
 
 // ---- plans
 
@@ -194,6 +196,22 @@ fn congruent(ws: &[u32], claim: Claim, top: usize) -> Plan
     )
 }
 
+// Rule 12: a = b when both have the same linear form.
+fn same_form(ws: &mut [u32], variables: usize, claim: Claim, top: usize) -> Plan
+    requires { ⌜ Formed (now ws) top ⌝ }
+    requires { ⌜ Linear (now ws) variables claim ⌝ }
+    requires { ⌜ ClaimBelow top claim ⌝ }
+    ensures { λ r. ⌜ Planned Anywhere (asks linear (claimOf (now (ws .entry)) claim)) (now (ws .entry)) (now (ws .exit)) top r ⌝ }
+{
+    let Pair::Nodes(a, b) = parts::sides(claim, Comparison::Equal) else {
+        return unfit(top);
+    };
+    match linear::compare(ws, a, b, variables) {
+        FormComparison::Same => none(top),
+        FormComparison::Different => unfit(top),
+    }
+}
+
 // Rule 13: 0 ≤ a.
 fn from_zero(ws: &[u32], claim: Claim, top: usize) -> Plan
     requires { ⌜ Formed (now ws) top ⌝ }
@@ -325,6 +343,83 @@ fn strict(claim: Claim, top: usize) -> Plan
         compared(Comparison::Unequal, a, b),
         top,
     )
+}
+
+// Rules 22 and 23 for node t: base ≤ t, t < base plus length, region j having the right. Two new nodes.
+fn in_region(
+    regions: &[u32],
+    count: usize,
+    ws: &mut [u32],
+    right: u32,
+    t: usize,
+    j: usize,
+    top: usize,
+) -> Plan
+    requires { ⌜ RegionWords (now regions) count ⌝ }
+    requires { ⌜ Formed (now ws) top ⌝ }
+    requires { ⌜ Space (now ws) top 4 ⌝ }
+    requires { ⌜ t < top ⌝ }
+    ensures { λ r. ⌜ Planned (Over (regionsOf (now (regions .entry)) count)) (inRegion right j (termAt (now (ws .entry)) t)) (now (ws .entry)) (now (ws .exit)) top r ⌝ }
+{
+    if count <= j {
+        return unfit(top);
+    }
+    let base = regions[3 * j];
+    let size = regions[3 * j + 1];
+    let rights = regions[3 * j + 2];
+    if (rights == right) | (rights == 3) {
+        terms::put_constant(ws, top, base);
+        terms::put_constant(ws, top + 1, base + size);
+        two(
+            compared(Comparison::AtMost, top, t),
+            compared(Comparison::Less, t, top + 1),
+            top + 2,
+        )
+    } else {
+        unfit(top)
+    }
+}
+
+// Rule 22: readable(t).
+fn readable(
+    regions: &[u32],
+    count: usize,
+    ws: &mut [u32],
+    claim: Claim,
+    j: usize,
+    top: usize,
+) -> Plan
+    requires { ⌜ RegionWords (now regions) count ⌝ }
+    requires { ⌜ Formed (now ws) top ⌝ }
+    requires { ⌜ Space (now ws) top 4 ⌝ }
+    requires { ⌜ ClaimBelow top claim ⌝ }
+    ensures { λ r. ⌜ Planned (Over (regionsOf (now (regions .entry)) count)) (asks (in-readable-region j) (claimOf (now (ws .entry)) claim)) (now (ws .entry)) (now (ws .exit)) top r ⌝ }
+{
+    let Claim::Readable(t) = claim else {
+        return unfit(top);
+    };
+    in_region(regions, count, ws, 1, t, j, top)
+}
+
+// Rule 23: writable(t).
+fn writable(
+    regions: &[u32],
+    count: usize,
+    ws: &mut [u32],
+    claim: Claim,
+    j: usize,
+    top: usize,
+) -> Plan
+    requires { ⌜ RegionWords (now regions) count ⌝ }
+    requires { ⌜ Formed (now ws) top ⌝ }
+    requires { ⌜ Space (now ws) top 4 ⌝ }
+    requires { ⌜ ClaimBelow top claim ⌝ }
+    ensures { λ r. ⌜ Planned (Over (regionsOf (now (regions .entry)) count)) (asks (in-writable-region j) (claimOf (now (ws .entry)) claim)) (now (ws .entry)) (now (ws .exit)) top r ⌝ }
+{
+    let Claim::Writable(t) = claim else {
+        return unfit(top);
+    };
+    in_region(regions, count, ws, 2, t, j, top)
 }
 
 // Rule 24: any claim from m < m.

@@ -1,6 +1,6 @@
 use mathlib.Core.Path.{_∙_, sym}
 use borrow.Author.Needs.{needs}
-use Rattle.derivation.proofs.RuleLaws.{atom-below, evaluation-access, evaluation-fails, evaluation-fits, evaluation-left, evaluation-right, formed-at}
+use Rattle.derivation.proofs.RuleLaws.{evaluation-access, evaluation-fails, evaluation-fits, evaluation-left, evaluation-right, formed-at, told-below}
 use Rattle.derivation.proofs.rules.evaluated.Statement.{statement}
 use Rattle.derivation.proofs.rules.evaluated.Tie as tie
 
@@ -14,7 +14,7 @@ returns : tie.Need-returns
 returns c = evaluation-access (c .before .before .before .args .claim) (c .before .before .before .pre .0) (c .before .match .keys2) (c .unfit .ensures)
 
 evaluate-requires : tie.Need-evaluate-requires
-evaluate-requires c κs = formed-at (c .before .before .before .before .pre .0) (atom-below (c .before .claim .given .1) (c .before .before .before .before .pre .1) .0)
+evaluate-requires c κs = formed-at (c .before .before .before .before .pre .0) (told-below _ (c .before .claim .given .1) (c .before .before .before .before .pre .1) .0)
 
 enum-known-a : tie.Need-enum-known-a
 enum-known-a c = search needs
@@ -29,7 +29,7 @@ returns-2 : tie.Need-returns-2
 returns-2 c = evaluation-left _ (c .before .before .before .before .before .before .before .before .pre .0) (c .before .before .before .before .before .claim .given .1) (sym (c .before .enum-told .given .1) ∙ c .before .before .before .evaluate .ensures) (c .unfit2 .ensures)
 
 evaluate-requires-2 : tie.Need-evaluate-requires-2
-evaluate-requires-2 c κs = formed-at (c .before .before .before .before .before .before .before .before .pre .0) (atom-below (c .before .before .before .before .before .claim .given .1) (c .before .before .before .before .before .before .before .before .pre .1) .1)
+evaluate-requires-2 c κs = formed-at (c .before .before .before .before .before .before .before .before .pre .0) (told-below _ (c .before .before .before .before .before .claim .given .1) (c .before .before .before .before .before .before .before .before .pre .1) .1)
 
 enum-known-b : tie.Need-enum-known-b
 enum-known-b c = search needs

@@ -1,7 +1,7 @@
 use mathlib.Core.Path.{refl}
 use native.Mathlib.Omega.{arith}
 use borrow.Author.Needs.{needs}
-use Rattle.derivation.proofs.RuleLaws.{formed-at, no-overflow-differs, no-overflow-fits, no-overflow-right, no-sides, operands-told, put-asks, sides-told}
+use Rattle.derivation.proofs.RuleLaws.{formed-at, no-overflow-differs, no-overflow-fits, no-overflow-right, no-sides, operands-told, put-asks-parts, sides-told}
 use Rattle.model.specs.Rule.{premises}
 use Rattle.terms.proofs.Table.{part}
 use Rattle.derivation.proofs.rules.no_overflow.Statement.{statement}
@@ -51,7 +51,7 @@ add-put-difference : tie.Need-add-put-difference
 add-put-difference c = search needs
 
 put-difference-requires : tie.Need-put-difference-requires
-put-difference-requires c κs = put-asks _ _ (c .before .before .before .before .before .before .before .before .before .before .before .before .before .before .before .before .before .before .pre .1 .0) (c .before .before .before .put-constant .ensures) (c .before .before .before .put-constant .kept .0) (omega arith) (omega (arith, operands-told (c .before .before .before .before .before .before .before .before .before .before .before .sum-operands .ensures) (c .before .before .before .before .before .before .before .before .before .p .given .1) .below .1, sides-told (c .before .before .before .before .before .before .before .before .before .before .before .before .before .before .before .before .sides .ensures) (c .before .before .before .before .before .before .before .before .before .before .before .before .before .before .a .given .1) .below _ (c .before .before .before .before .before .before .before .before .before .before .before .before .before .before .before .before .before .before .pre .1 .1) .1))
+put-difference-requires c κs = put-asks-parts (c .before .before .before .before .before .before .before .before .before .before .before .before .before .before .before .before .before .before .pre .1 .0) (c .before .before .before .put-constant .ensures) (c .before .before .before .put-constant .kept .0) _ _ (omega arith) (omega (arith, operands-told (c .before .before .before .before .before .before .before .before .before .before .before .sum-operands .ensures) (c .before .before .before .before .before .before .before .before .before .p .given .1) .below .1, sides-told (c .before .before .before .before .before .before .before .before .before .before .before .before .before .before .before .before .sides .ensures) (c .before .before .before .before .before .before .before .before .before .before .before .before .before .before .a .given .1) .below _ (c .before .before .before .before .before .before .before .before .before .before .before .before .before .before .before .before .before .before .pre .1 .1) .1))
 
 add-compared : tie.Need-add-compared
 add-compared c = search needs

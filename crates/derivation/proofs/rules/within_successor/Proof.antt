@@ -1,7 +1,7 @@
 use mathlib.Core.Path.{refl}
 use native.Mathlib.Omega.{arith}
 use borrow.Author.Needs.{needs}
-use Rattle.derivation.proofs.RuleLaws.{below-successor-fits, no-sides, put-asks, sides-told}
+use Rattle.derivation.proofs.RuleLaws.{below-successor-fits, no-sides, put-asks-parts, sides-told}
 use Rattle.model.specs.Rule.{premises}
 use Rattle.derivation.proofs.rules.within_successor.Statement.{statement}
 use Rattle.derivation.proofs.rules.within_successor.Tie as tie
@@ -29,7 +29,7 @@ add-put-sum : tie.Need-add-put-sum
 add-put-sum c = search needs
 
 put-sum-requires : tie.Need-put-sum-requires
-put-sum-requires c κs = put-asks _ _ (c .before .before .before .before .before .before .before .before .before .before .pre .1 .0) (c .before .before .before .put-constant .ensures) (c .before .before .before .put-constant .kept .0) (omega (arith, sides-told (c .before .before .before .before .before .before .before .before .sides .ensures) (c .before .before .before .before .before .before .a .given .1) .below _ (c .before .before .before .before .before .before .before .before .before .before .pre .1 .1) .1)) (omega arith)
+put-sum-requires c κs = put-asks-parts (c .before .before .before .before .before .before .before .before .before .before .pre .1 .0) (c .before .before .before .put-constant .ensures) (c .before .before .before .put-constant .kept .0) _ _ (omega (arith, sides-told (c .before .before .before .before .before .before .before .before .sides .ensures) (c .before .before .before .before .before .before .a .given .1) .below _ (c .before .before .before .before .before .before .before .before .before .before .pre .1 .1) .1)) (omega arith)
 
 add-compared : tie.Need-add-compared
 add-compared c = search needs
