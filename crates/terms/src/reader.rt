@@ -3,6 +3,7 @@ use model::Comparison;
 ghost use mathlib.Core.Path.{_≡_};
 ghost use Prim.Native.Nat.{_+_, _≤_, _<_};
 ghost use lib.ListN.{length};
+ghost use Rattle.model.specs.Atom.{tagOf};
 ghost use Rattle.model.specs.Expression.{mostNodes, four-byte-constant, two-byte-variable};
 ghost use Rattle.terms.specs.Workspace.{mostVariables};
 ghost use Rattle.terms.specs.Table.{termAt, Formed, Space, Put};
@@ -142,7 +143,8 @@ fn read(
         0 => read_constant(bytes, ws, end, limit, registers, at, left, top),
         1 => read_variable(bytes, ws, end, limit, registers, at, left, top),
         2 | 3 => {
-            let first = read(bytes, ws, end, limit, registers, at + 1, left - 1, top);
+            let start = at + 1;
+            let first = read(bytes, ws, end, limit, registers, start, left - 1, top);
             let Parse::Term {
                 number: a,
                 next: middle,
@@ -203,6 +205,18 @@ pub fn comparison(tag: u32) -> Comparison
     }
 }
 
+// The tag of a comparison.
+pub fn tag(kind: Comparison) -> u32
+    ensures { λ r. ⌜ r ≡ tagOf kind ⌝ }
+{
+    match kind {
+        Comparison::Equal => 0,
+        Comparison::Unequal => 1,
+        Comparison::Less => 2,
+        Comparison::AtMost => 3,
+    }
+}
+
 // An expression that cannot be read, as the answer for the atom that it stands in.
 fn unread(answer: Parse) -> AtomParse
     ensures { λ r. ⌜ r ≡ unreadOf answer ⌝ }
@@ -227,14 +241,15 @@ pub fn atom(
     requires { ⌜ Ready (now ws) registers top atomNodes ⌝ }
     ensures { λ r. ⌜ AtomRead (now (ws .entry)) (now (ws .exit)) registers (now (bytes .entry)) end limit at top r ⌝ }
 {
-    if end <= at {
+    if at >= end {
         return AtomParse::Missing;
     }
     let tag = bytes[at];
     if 3 < tag {
         return AtomParse::Fault(at);
     }
-    let first = expression(bytes, ws, end, limit, registers, at + 1, top);
+    let start = at + 1;
+    let first = expression(bytes, ws, end, limit, registers, start, top);
     let Parse::Term {
         number: left,
         next: middle,
