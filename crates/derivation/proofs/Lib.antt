@@ -1,3 +1,4 @@
 pub mod PartLaws
 pub mod BoundLaws
 pub mod RuleLaws
+pub mod OpeningLaws

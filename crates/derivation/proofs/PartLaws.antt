@@ -1,7 +1,7 @@
 -- Laws of claims and terms taken apart: one for each way out. Assumes nothing.
 use mathlib.Core.Path.{_≡_, refl, sym, _∙_}
 use mathlib.Core.Logic.{⊎-elim, _⊎_}
-use mathlib.Core.Bool.{true, false}
+use mathlib.Core.Bool.{Bool, true, false, _&&_}
 use mathlib.Core.List.{List}
 use Prim.Native.Nat.{ℕ, suc, _<_}
 use native.Mathlib.Omega.{arith}
@@ -10,7 +10,7 @@ use borrow.Author.Tests.{eq-eqb, ne-eqb}
 use denote.Enum.Declared.{tagOf as variant, declared}
 use Rattle.model.specs.Result.{Fit, stop, value, misfit, _>>=_, check}
 use Rattle.model.specs.Term.{Term, constant, eqTerm}
-use Rattle.model.specs.Atom.{tagOf}
+use Rattle.model.specs.Atom.{tagOf, eqAtom}
 use Rattle.model.specs.Rule.{atomOf, sidesOf, sumOf, differenceOf, operandsOf}
 use Rattle.model.specs.declared.Comparison.{Comparison}
 use Rattle.terms.specs.Table.{viewOf, build, termAt, Formed}
@@ -18,6 +18,8 @@ use Rattle.terms.specs.declared.Node.{Node}
 use Rattle.terms.specs.declared.Node.the-variants.{Constant, Variable, Sum, Difference}
 use Rattle.terms.proofs.Node.{enum as node-enum}
 use Rattle.terms.proofs.Table.{node-order, node-built}
+use Rattle.assumptions.specs.Area.{entryOf, atomIn}
+use Rattle.assumptions.specs.declared.Assumption.{Assumption}
 use Rattle.derivation.specs.Parts.{beforePair, Sides, Operands, FourOperands}
 use Rattle.derivation.specs.declared.Claim.{Claim}
 use Rattle.derivation.specs.declared.Claim.the-variants.{Atom, Readable, Writable}
@@ -127,3 +129,16 @@ module _ {ws : List ℕ} {i j : ℕ} (f : Formed ws (suc i)) {n : Node} (e : n �
     pub four-difference : n ≡ Difference a b → Operands ws j r (differenceOf (termAt ws j)) → FourOperands ws i j q
     unfolding operandsOf
     four-difference d o = four-pair r (differenceOf (termAt ws j)) (node-order f e d) o k (rw (node-built f e d))
+
+-- ---- an assumption
+module _ (ws : List ℕ) (k : ℕ) {a : Assumption} (e : a ≡ entryOf ws k) where
+  pub entry-left : Formed ws (suc (entryOf ws k .left)) → Formed ws (suc (a .left))
+  entry-left f = rw e f
+
+  pub entry-right : Formed ws (suc (entryOf ws k .right)) → Formed ws (suc (a .right))
+  entry-right f = rw e f
+
+  pub assumption-is : (kind : Comparison) (left right : ℕ) {t u : ℕ} {x y : Bool} → t ≡ tagOf kind → u ≡ tagOf (a .kind) → x ≡ eqTerm (termAt ws left) (termAt ws (a .left)) → y ≡ eqTerm (termAt ws right) (termAt ws (a .right))
+      → (eqb t u && x && y) ≡ eqAtom (record { kind = kind; left = termAt ws left; right = termAt ws right }) (atomIn ws (entryOf ws k))
+  unfolding eqAtom
+  assumption-is kind left right p q r s = rw (← e, p, q, r, s)

@@ -10,20 +10,22 @@ use lib.ListN.{length, getElem?}
 use denote.Enum.Declared.{tagOf as variant, declared}
 use Rattle.model.specs.Result.{Result, Fit, misfit, stop, value, _>>=_, check, found}
 use Rattle.model.specs.Term.{Term, constant, variable, sum, difference, eqTerm, closed, eval}
-use Rattle.model.specs.Atom.{Atom, compares, holds}
+use Rattle.model.specs.Atom.{Atom, compares, holds, eqAtom}
 use Rattle.model.specs.Policy.{Policy}
 use Rattle.model.specs.Goals.{Goal, Claim as Claimed}
 use Rattle.model.specs.Rule.{Rule, atomOf, sidesOf, readableOf, writableOf, sumOf, differenceOf, operandsOf, regionPremises, premises}
-use Rattle.model.specs.Rule.{evaluation, congruence, linear, zero-at-most, sum-monotone, difference-monotone, successor-at-most, below-successor, sum-no-overflow, less-of-at-most, in-readable-region, in-writable-region, contradiction}
+use Rattle.model.specs.Rule.{assumption, evaluation, congruence, linear, zero-at-most, sum-monotone, difference-monotone, successor-at-most, below-successor, sum-no-overflow, less-of-at-most, in-readable-region, in-writable-region, contradiction}
 use Rattle.model.specs.Linear.{sameForm}
 use Rattle.model.proofs.Gives.{gives-value}
 use Rattle.model.specs.declared.Comparison.{Comparison}
 use Rattle.model.specs.declared.Comparison.the-variants.{Equal, Unequal, Less, AtMost}
-use Rattle.terms.specs.Workspace.{tableBase, Same}
+use Rattle.terms.specs.Workspace.{workspaceWords, mostAssumptions, tableBase, Same}
 use Rattle.terms.specs.Table.{place, termAt, Formed, Space, Put}
 use Rattle.terms.specs.Closed.{valueIf, closedValue}
 use Rattle.terms.specs.declared.Closed.{Closed}
 use Rattle.terms.specs.declared.Closed.the-variants.{Value, Open}
+use Rattle.assumptions.specs.Area.{entryOf, atomIn as entryAtom, listed, Listed}
+use Rattle.assumptions.proofs.Laws.{listed-at, listed-past}
 use Rattle.linear.specs.Area.{Comparable}
 use Rattle.linear.specs.Comparison.{comparisonOf}
 use Rattle.linear.specs.declared.FormComparison.{FormComparison}
@@ -34,7 +36,7 @@ use Rattle.derivation.proofs.PartLaws.{Access, neither}
 use Rattle.derivation.proofs.BoundLaws.{sides-bounded}
 use Rattle.derivation.proofs.Claim.{enum as claim-enum}
 use Rattle.derivation.specs.Parts.{claimOf, ClaimBelow, Linear, Sides, Operands, FourOperands}
-use Rattle.derivation.specs.Plan.{premise, blank, plan, atomIn, PremiseBelow, Grows, Planned, Anywhere, asks, always, reflexivePremises, symmetricPremises, throughPremises, otherPremises, inRegion}
+use Rattle.derivation.specs.Plan.{premise, blank, plan, atomIn, PremiseBelow, Grows, Planned, Anywhere, Assuming, asks, always, reflexivePremises, symmetricPremises, throughPremises, otherPremises, inRegion}
 use Rattle.derivation.specs.Regions.{regionIn, regionsFrom, regionsOf, may, Over}
 use Rattle.derivation.specs.declared.Claim.{Claim}
 use Rattle.derivation.specs.declared.Claim.the-variants.{Atom as AtomClaim, Readable, Writable}
@@ -464,3 +466,35 @@ module _ {Where : Policy → Goal → Type 0} {ws us : List ℕ} {top : ℕ} (j 
   pub writable-in : claim ≡ Writable t → Planned Where (inRegion 2 j (termAt ws t)) ws us top p → Planned Where (asks (in-writable-region j) (claimOf ws claim)) ws us top p
   unfolding premises writableOf _>>=_
   writable-in e q = says-as q (λ policy g h. (h, rw e))
+
+-- ---- rule 0
+module _ {ws : List ℕ} {top : ℕ} (index : ℕ) (claim : Claim) (f : Formed ws top) {p : Plan} where
+  pub assumption-access : {Where : Policy → Goal → Type 0} → Access claim → Unfit top p → Planned Where (asks (assumption index) (claimOf ws claim)) ws ws top p
+  unfolding premises
+  assumption-access o e = misfits (stays f) e (λ policy g _. stops _ (no-atom ws claim o))
+
+  module _ (count : ℕ) {kind : Comparison} {l r : ℕ} (c : claim ≡ AtomClaim kind l r) where
+    pub assumption-past : count ≤ index → Unfit top p → Planned (Assuming (listed ws count)) (asks (assumption index) (claimOf ws claim)) ws ws top p
+    unfolding premises
+    assumption-past h e = misfits (stays f) e (λ policy g o. goes-on _ (is-atom ws c) (stops _ (not-found misfit (ap (λ x. getElem? x index) o ∙ listed-past ws count index h))))
+
+    module _ (h : index < count) {x : Bool} (t : x ≡ eqAtom (atomIn ws (premise kind l r)) (entryAtom ws (entryOf ws index))) where
+      pub assumption-fits : x ≡ true → p ≡ plan true 0 blank blank blank top → Planned (Assuming (listed ws count)) (asks (assumption index) (claimOf ws claim)) ws ws top p
+      unfolding premises
+      assumption-fits q e =
+          fits-none (stays f) e
+          (λ policy g o. goes-on _ (is-atom ws c) (goes-on _ (is-found misfit (ap (λ x. getElem? x index) o ∙ listed-at ws count index h)) (check-passes _ _ (sym t ∙ q) refl)))
+
+      pub assumption-differs : x ≡ false → Unfit top p → Planned (Assuming (listed ws count)) (asks (assumption index) (claimOf ws claim)) ws ws top p
+      unfolding premises
+      assumption-differs q e =
+          misfits (stays f) e
+          (λ policy g o. goes-on _ (is-atom ws c) (goes-on _ (is-found misfit (ap (λ x. getElem? x index) o ∙ listed-at ws count index h)) (check-fails _ _ (sym t ∙ q))))
+
+-- what comparing with an assumption asks
+pub assumption-asks : {ws : List ℕ} {count top index : ℕ} {kind : Comparison} {l r : ℕ} {claim : Claim} → Formed ws top → (workspaceWords ≤ length ws) × Listed ws count top → ClaimBelow top claim → claim ≡ AtomClaim kind l r → index < count
+    → ((index < mostAssumptions) × (workspaceWords ≤ length ws)) × (Formed ws (suc l) × (Formed ws (suc r) × (Formed ws (suc (entryOf ws index .left)) × Formed ws (suc (entryOf ws index .right)))))
+assumption-asks {top = top} {index = index} f w i c h =
+    let j = told-below top c i in
+    let k = w .1 .held index h in
+    ((omega (arith, w .1 .few), w .0), (formed-at f (j .0), (formed-at f (j .1), (formed-at f (k .0), formed-at f (k .1)))))

@@ -1,17 +1,19 @@
 -- A rule read from the proof, in terms of the term table. Assumes nothing.
 use mathlib.Core.Path.{_≡_}
+use mathlib.Core.Bool.{true, false, _&&_, _||_}
 use mathlib.Core.Option.{Option, none, some}
 use mathlib.Core.List.{List, [], _∷_}
 use Prim.Native.Nat.{ℕ, _+_, _<_, _≤_}
-use lib.ListN.{length, getElem?}
+use lib.Dec.{eqb, leb}
+use lib.ListN.{length, getD, getElem?}
 use Rattle.model.specs.Result.{Result, stop, value}
-use Rattle.model.specs.Term.{Term}
-use Rattle.model.specs.Linear.{variableBound}
+use Rattle.model.specs.Expression.{mostNodes, registerCount}
+use Rattle.model.specs.Goals.{registerVariables}
 use Rattle.model.specs.Rule.{Rule, Format, plain, with-index, with-term, with-region, rules, contradiction}
 use Rattle.model.specs.Derivation.{ruleAt}
 use Rattle.model.specs.declared.Refusal.{Refusal}
 use Rattle.model.specs.declared.Refusal.the-variants.{ProofExhausted, BadArgument}
-use Rattle.terms.specs.Workspace.{Same}
+use Rattle.terms.specs.Workspace.{mostVariables, Same}
 use Rattle.terms.specs.Table.{place, termAt, Formed, Space}
 use Rattle.terms.specs.Reader.{RegisterTerms}
 use Rattle.terms.specs.declared.reader.Parse.{Parse}
@@ -40,3 +42,62 @@ ruleIn us v (some (with-region rule)) = rule v
 -- the rule of a number
 unfoldable pub ruleOf : List ℕ → (number argument : ℕ) → Rule
 ruleOf us number v = ruleIn us v (getElem? rules number)
+
+-- the tests of a rule's number
+unfoldable pub formOfNumber : ℕ → Form
+formOfNumber n =
+    elim (eqb n 0) [
+      | true ↦ Index
+      | false ↦
+          elim (leb 5 n && leb n 8 || eqb n 24) [
+            | true ↦ Argument
+            | false ↦ elim (leb 22 n && leb n 23) [ true ↦ Region | false ↦ elim (leb n 24) [ true ↦ Plain | false ↦ Unknown ] ]
+          ]
+    ]
+
+-- "15: proof exhausted (package length)"; "18: argument faulty"
+abbrev pub refusalOf : Parse → (size : ℕ) → Refusal
+refusalOf (Found number next left top) size = ProofExhausted size
+refusalOf Missing size = ProofExhausted size
+refusalOf (Fault p) size = BadArgument p
+
+-- the rule and the next position that an answer says in the words us
+abbrev pub openedOf : List ℕ → Opened → Result Refusal (Rule × ℕ)
+openedOf us (OpenRule number v next top) = value (ruleOf us number v, next)
+openedOf us (Refused f) = stop f
+
+-- ---- the contracts
+-- a rule byte that is there, and what stands after it
+pub record Begun (bytes : List ℕ) (number at : ℕ) (form : Form) : Type 0 where
+  pub there : at < length bytes
+  pub is : number ≡ getD bytes at 0
+  pub kind : form ≡ formOf (getElem? rules number)
+
+-- nodes 0 to 15
+abbrev pub registerNodes : List ℕ
+registerNodes = 0 ∷ 1 ∷ 2 ∷ 3 ∷ 4 ∷ 5 ∷ 6 ∷ 7 ∷ 8 ∷ 9 ∷ 10 ∷ 11 ∷ 12 ∷ 13 ∷ 14 ∷ 15 ∷ []
+
+-- what reading a rule needs: nodes 0 to 15 are variables 0 to 15, there is room for an argument, and the variables are few
+pub record Opening (ws : List ℕ) (variables top : ℕ) : Type 0 where
+  pub formed : Formed ws top
+  pub space : Space ws top mostNodes
+  pub above : registerCount ≤ top
+  pub registers : RegisterTerms ws registerNodes registerVariables
+  pub most : variables ≤ mostVariables
+
+-- the table's new top, and the argument's node below it
+abbrev pub topOf : (top : ℕ) → Opened → ℕ
+topOf top (OpenRule number v next t) = t
+topOf top (Refused f) = top
+
+abbrev pub ArgumentBelow : Opened → Type 0
+ArgumentBelow (OpenRule number v next t) = Argument ≡ formOf (getElem? rules number) → v < t
+ArgumentBelow (Refused f) = Unit {0}
+
+pub record Opens (bytes ws us : List ℕ) (variables top at : ℕ) (r : Opened) : Type 0 where
+  pub answer : openedOf us r ≡ ruleAt bytes variables at
+  pub kept : Same 0 (place top) ws us
+  pub formed : Formed us (topOf top r)
+  pub above : top ≤ topOf top r
+  pub few : topOf top r ≤ top + mostNodes
+  pub argument : ArgumentBelow r

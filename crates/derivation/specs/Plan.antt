@@ -75,6 +75,10 @@ pub record Planned (Where : Policy → Goal → Type 0) (asked : Policy → Goal
 abbrev pub Anywhere : Policy → Goal → Type 0
 Anywhere policy g = Unit {0}
 
+-- where the goal's assumptions are these
+abbrev pub Assuming : List Atom → Policy → Goal → Type 0
+Assuming atoms policy g = g .assumptions ≡ atoms
+
 -- the premises of a rule
 abbrev pub asks : Rule → Claimed → Policy → Goal → Fit (List Atom)
 asks rule c policy g = premises policy g rule c

@@ -1,4 +1,5 @@
 // Derivations: the rules, and the checker of a derivation in prefix form.
+pub mod opening;
 pub mod parts;
 pub mod rules;
 use model::Comparison;
@@ -14,6 +15,13 @@ pub enum Claim {
 pub struct Goal {
     pub claim: Claim,
     pub instruction: usize,
+}
+
+// What a claim is judged in: how many regions, assumptions and variables there are.
+pub struct Scope {
+    pub regions: usize,
+    pub assumptions: usize,
+    pub variables: usize,
 }
 
 // A comparison of two nodes, to be derived.

@@ -2,12 +2,16 @@
 use crate::Claim;
 use model::Comparison;
 use terms::Node;
+use terms::reader;
 ghost use mathlib.Core.Path.{_≡_};
-ghost use Prim.Native.Nat.{ℕ, suc};
+ghost use Prim.Native.Nat.{ℕ, suc, _<_, _≤_};
+ghost use lib.ListN.{length};
 ghost use Rattle.model.specs.Term.{constant, eqTerm};
-ghost use Rattle.model.specs.Atom.{tagOf, compares};
+ghost use Rattle.model.specs.Atom.{compares, eqAtom};
 ghost use Rattle.model.specs.Rule.{sumOf, differenceOf};
+ghost use Rattle.terms.specs.Workspace.{workspaceWords, mostAssumptions};
 ghost use Rattle.terms.specs.Table.{termAt, Formed};
+ghost use Rattle.assumptions.specs.Area.{entryOf, atomIn};
 ghost use Rattle.derivation.specs.Parts.{beforePair, Sides, Operands, FourOperands};
 
 // Two nodes, or that what is looked at has not the form that is asked for.
@@ -20,18 +24,6 @@ pub enum Pair {
 pub enum Quadruple {
     Nodes(usize, usize, usize, usize),
     Misfit,
-}
-
-// The number of a kind.
-pub fn number(kind: Comparison) -> u32
-    ensures { λ r. ⌜ r ≡ tagOf kind ⌝ }
-{
-    match kind {
-        Comparison::Equal => 0,
-        Comparison::Unequal => 1,
-        Comparison::Less => 2,
-        Comparison::AtMost => 3,
-    }
 }
 
 // Whether the comparison holds between two words.
@@ -53,7 +45,7 @@ pub fn sides(claim: Claim, kind: Comparison) -> Pair
     let Claim::Atom(own, left, right) = claim else {
         return Pair::Misfit;
     };
-    if number(own) == number(kind) {
+    if reader::tag(own) == reader::tag(kind) {
         Pair::Nodes(left, right)
     } else {
         Pair::Misfit
@@ -114,4 +106,27 @@ pub fn is_constant(ws: &[u32], i: usize, value: u32) -> bool
         return false;
     };
     own == value
+}
+
+// Whether a comparison of two nodes is assumption k, node by node.
+pub fn is_assumption(
+    ws: &[u32],
+    k: usize,
+    kind: Comparison,
+    left: usize,
+    right: usize,
+) -> bool
+    requires { ⌜ (k < mostAssumptions) × (workspaceWords ≤ length (now ws)) ⌝ }
+    requires { ⌜ Formed (now ws) (suc left) ⌝ }
+    requires { ⌜ Formed (now ws) (suc right) ⌝ }
+    requires { ⌜ Formed (now ws) (suc (entryOf (now ws) k .left)) ⌝ }
+    requires { ⌜ Formed (now ws) (suc (entryOf (now ws) k .right)) ⌝ }
+    ensures { λ r. ⌜ r ≡ eqAtom (record { kind = kind; left = termAt (now (ws .entry)) left; right = termAt (now (ws .entry)) right }) (atomIn (now (ws .entry)) (entryOf (now (ws .entry)) k)) ⌝ }
+{
+    let known = assumptions::get(ws, k);
+    let own = known.kind;
+    let same_kind = reader::tag(kind) == reader::tag(own);
+    let same_left = terms::same(ws, left, known.left);
+    let same_right = terms::same(ws, right, known.right);
+    same_kind & same_left & same_right
 }

@@ -2,6 +2,7 @@
 use crate::Claim;
 use crate::Plan;
 use crate::Premise;
+use crate::Scope;
 use crate::parts;
 use crate::parts::Pair;
 use crate::parts::Quadruple;
@@ -11,13 +12,18 @@ use terms::Closed;
 ghost use mathlib.Core.Path.{_≡_};
 ghost use mathlib.Core.Bool.{true, false};
 ghost use mathlib.Core.List.{List};
-ghost use Prim.Native.Nat.{ℕ, suc, _<_};
+ghost use Prim.Native.Nat.{ℕ, suc, _<_, _≤_};
+ghost use lib.ListN.{length};
 ghost use Rattle.model.specs.Goals.{Claim as Claimed};
-ghost use Rattle.model.specs.Rule.{evaluation, congruence, linear, zero-at-most, sum-monotone, difference-monotone, successor-at-most, below-successor, sum-no-overflow, less-of-at-most, in-readable-region, in-writable-region, contradiction};
+ghost use Rattle.model.specs.Rule.{assumption, evaluation, congruence, linear, zero-at-most, sum-monotone, difference-monotone, successor-at-most, below-successor, sum-no-overflow, less-of-at-most, in-readable-region, in-writable-region, contradiction};
+ghost use Rattle.terms.specs.Workspace.{workspaceWords};
 ghost use Rattle.terms.specs.Table.{termAt, Formed, Space};
+ghost use Rattle.assumptions.specs.Area.{listed, Listed};
 ghost use Rattle.derivation.specs.Parts.{claimOf, ClaimBelow, Linear};
+ghost use Rattle.derivation.specs.Opening.{ruleOf};
+ghost use Rattle.derivation.specs.Deriving.{Judged, Plannable};
 ghost use Rattle.derivation.specs.Regions.{regionsOf, RegionWords, Over};
-ghost use Rattle.derivation.specs.Plan.{plan, blank, Anywhere, always, asks, Planned, reflexivePremises, symmetricPremises, throughPremises, otherPremises, inRegion};
+ghost use Rattle.derivation.specs.Plan.{plan, blank, Anywhere, Assuming, always, asks, Planned, reflexivePremises, symmetricPremises, throughPremises, otherPremises, inRegion};
 
 // ---- plans
 
@@ -104,6 +110,26 @@ fn three(a: Premise, b: Premise, c: Premise, top: usize) -> Plan
 }
 
 // ---- the rules
+
+// Rule 0: an assumption, by its index.
+fn assumed(ws: &[u32], count: usize, claim: Claim, index: usize, top: usize) -> Plan
+    requires { ⌜ Formed (now ws) top ⌝ }
+    requires { ⌜ (workspaceWords ≤ length (now ws)) × Listed (now ws) count top ⌝ }
+    requires { ⌜ ClaimBelow top claim ⌝ }
+    ensures { λ r. ⌜ Planned (Assuming (listed (now (ws .entry)) count)) (asks (assumption index) (claimOf (now (ws .entry)) claim)) (now (ws .entry)) (now (ws .entry)) top r ⌝ }
+{
+    let Claim::Atom(kind, left, right) = claim else {
+        return unfit(top);
+    };
+    if count <= index {
+        return unfit(top);
+    }
+    if parts::is_assumption(ws, index, kind, left, right) {
+        none(top)
+    } else {
+        unfit(top)
+    }
+}
 
 // Rules 1 and 2: a = a, a ≤ a.
 fn reflexive(ws: &[u32], claim: Claim, kind: Comparison, top: usize) -> Plan
@@ -428,4 +454,50 @@ fn contradicted(m: usize, top: usize) -> Plan
     ensures { λ r. ⌜ ((ws : List ℕ) → Formed ws top → (c : Claimed) → Planned Anywhere (asks (contradiction (termAt ws m)) c) ws ws top r) ⌝ }
 {
     one(compared(Comparison::Less, m, m), top)
+}
+
+// What the rule of a number asks of a claim; `value` is its argument: an index, a region's number or a node.
+pub fn planned(
+    regions: &[u32],
+    ws: &mut [u32],
+    scope: Scope,
+    number: usize,
+    value: usize,
+    claim: Claim,
+    top: usize,
+) -> Plan
+    requires { ⌜ Plannable (now ws) (now regions) scope number value claim top ⌝ }
+    ensures { λ r. ⌜ Planned (Judged (now (regions .entry)) (now (ws .entry)) scope) (asks (ruleOf (now (ws .entry)) number value) (claimOf (now (ws .entry)) claim)) (now (ws .entry)) (now (ws .exit)) top r ⌝ }
+{
+    let equal = Comparison::Equal;
+    let unequal = Comparison::Unequal;
+    let less = Comparison::Less;
+    let at_most = Comparison::AtMost;
+    match number {
+        0 => assumed(ws, scope.assumptions, claim, value, top),
+        1 => reflexive(ws, claim, equal, top),
+        2 => reflexive(ws, claim, at_most, top),
+        3 => evaluated(ws, claim, top),
+        4 => symmetric(claim, equal, top),
+        5 => through(claim, equal, equal, equal, value, top),
+        6 => through(claim, at_most, at_most, at_most, value, top),
+        7 => through(claim, less, less, at_most, value, top),
+        8 => through(claim, less, at_most, less, value, top),
+        9 => of_other_kind(claim, at_most, less, top),
+        10 => of_other_kind(claim, at_most, equal, top),
+        11 => congruent(ws, claim, top),
+        12 => same_form(ws, scope.variables, claim, top),
+        13 => from_zero(ws, claim, top),
+        14 => sums(ws, claim, top),
+        15 => differences(ws, claim, top),
+        16 => successor(ws, claim, top),
+        17 => within_successor(ws, claim, top),
+        18 => no_overflow(ws, claim, top),
+        19 => strict(claim, top),
+        20 => of_other_kind(claim, unequal, less, top),
+        21 => symmetric(claim, unequal, top),
+        22 => readable(regions, scope.regions, ws, claim, value, top),
+        23 => writable(regions, scope.regions, ws, claim, value, top),
+        _ => contradicted(value, top),
+    }
 }
