@@ -2,3 +2,4 @@ pub mod PartLaws
 pub mod BoundLaws
 pub mod RuleLaws
 pub mod OpeningLaws
+pub mod PlanLaws

@@ -33,7 +33,7 @@ use Rattle.terms.proofs.Table.{formed-less}
 use Rattle.terms.proofs.Frames.{same-refl}
 use Rattle.terms.proofs.Building.{Refused as NoTerm, no-term}
 use Rattle.terms.proofs.Substitution.{expression-self}
-use Rattle.derivation.specs.Opening.{formOf, ruleIn, ruleOf, formOfNumber, refusalOf, openedOf, Begun, registerNodes, Opening, topOf, ArgumentBelow, Opens}
+use Rattle.derivation.specs.Opening.{formOf, ruleIn, ruleOf, formOfNumber, refusalOf, openedOf, Begun, registerNodes, Opening, topOf, Opens}
 use Rattle.derivation.specs.declared.opening.Form.{Form}
 use Rattle.derivation.specs.declared.opening.Form.the-variants.{Plain, Index, Argument, Region, Unknown}
 use Rattle.derivation.specs.declared.opening.Opened.{Opened}
@@ -136,6 +136,14 @@ row-unknown (some (with-index rule)) e = clash e (omega arith)
 row-unknown (some (with-term rule)) e = clash e (omega arith)
 row-unknown (some (with-region rule)) e = clash e (omega arith)
 
+-- a row that is there
+known-row : (n : ℕ) {f : Form} → f ≡ formOf (getElem? rules n) → (f ≡ Unknown → ⊥) → n < length rules
+known-row n e k = go (decLt n (length rules))
+  where
+    go : Dec (n < length rules) → n < length rules
+    go (yes h) = h
+    go (no h) = absurd (k (e ∙ ap formOf (past-end rules n (omega arith))))
+
 -- ---- fields of the proof
 module _ (bytes : List ℕ) where
   byte-missing : (p : ℕ) → length bytes ≤ p → stop (ProofExhausted (length bytes)) ≡ proofField bytes (byteAt bytes (length bytes) p)
@@ -216,10 +224,10 @@ module _ {bytes : List ℕ} {number at : ℕ} (us : List ℕ) (variables : ℕ) 
 -- ---- the ways out
 module _ {bytes ws : List ℕ} {variables top at : ℕ} (f : Formed ws top) where
   opens-refused : {r : Refusal} → stop r ≡ ruleAt bytes variables at → Opens bytes ws ws variables top at (Refused r)
-  opens-refused e = record { answer = e; kept = same-refl 0 (place top) ws; formed = f; above = omega arith; few = omega arith; argument = tt }
+  opens-refused e = record { answer = e; kept = same-refl 0 (place top) ws; formed = f; above = omega arith; few = omega arith; known = tt }
 
-  opens-rule : {number v next : ℕ} → value (ruleOf ws number v, next) ≡ ruleAt bytes variables at → (Argument ≡ formOf (getElem? rules number) → ⊥) → Opens bytes ws ws variables top at (OpenRule number v next top)
-  opens-rule e k = record { answer = e; kept = same-refl 0 (place top) ws; formed = f; above = omega arith; few = omega arith; argument = λ a. absurd (k a) }
+  opens-rule : {number v next : ℕ} → value (ruleOf ws number v, next) ≡ ruleAt bytes variables at → {form : Form} → form ≡ formOf (getElem? rules number) → (form ≡ Unknown → ⊥) → (form ≡ Argument → ⊥) → Opens bytes ws ws variables top at (OpenRule number v next top)
+  opens-rule {number} e k m n = record { answer = e; kept = same-refl 0 (place top) ws; formed = f; above = omega arith; few = omega arith; known = (known-row number k m, λ a. absurd (n (k ∙ sym a))) }
 
   pub opens-missing : length bytes ≤ at → Opens bytes ws ws variables top at (Refused (ProofExhausted (length bytes)))
   unfolding ruleAt
@@ -227,7 +235,7 @@ module _ {bytes ws : List ℕ} {variables top at : ℕ} (f : Formed ws top) wher
 
   module _ {number : ℕ} where
     pub opens-plain : (v : ℕ) → Begun bytes number at Plain → Opens bytes ws ws variables top at (OpenRule number v (at + 1) top)
-    opens-plain v b = opens-rule (opened-plain ws variables b v) (λ a. clash (a ∙ sym (b .kind)) (omega arith))
+    opens-plain v b = opens-rule (opened-plain ws variables b v) (b .kind) (λ a. clash a (omega arith)) (λ a. clash a (omega arith))
 
     pub opens-unknown : Begun bytes number at Unknown → Opens bytes ws ws variables top at (Refused (UnfitRule at))
     opens-unknown b = opens-refused (opened-unknown ws variables b)
@@ -237,14 +245,14 @@ module _ {bytes ws : List ℕ} {variables top at : ℕ} (f : Formed ws top) wher
       opens-index-missing h = opens-refused (opened-index-missing ws variables b h)
 
       pub opens-index : {v : ℕ} → 3 ≤ length bytes - at → v ≡ le16 bytes (at + 1) → Opens bytes ws ws variables top at (OpenRule number v (at + 3) top)
-      opens-index h k = opens-rule (opened-index ws variables b h k) (λ a. clash (a ∙ sym (b .kind)) (omega arith))
+      opens-index h k = opens-rule (opened-index ws variables b h k) (b .kind) (λ a. clash a (omega arith)) (λ a. clash a (omega arith))
 
     module _ (b : Begun bytes number at Region) where
       pub opens-region-missing : length bytes - at < 2 → Opens bytes ws ws variables top at (Refused (ProofExhausted (length bytes)))
       opens-region-missing h = opens-refused (opened-region-missing ws variables b h)
 
       pub opens-region : {v : ℕ} → 2 ≤ length bytes - at → v ≡ getD bytes (at + 1) 0 → Opens bytes ws ws variables top at (OpenRule number v (at + 2) top)
-      opens-region h k = opens-rule (opened-region ws variables b h k) (λ a. clash (a ∙ sym (b .kind)) (omega arith))
+      opens-region h k = opens-rule (opened-region ws variables b h k) (b .kind) (λ a. clash a (omega arith)) (λ a. clash a (omega arith))
 
 -- the registers' nodes are those of the table's first variables
 nodes-below : Every (λ k. getD registerNodes k 0 < 16) (downFrom 16)
@@ -265,7 +273,7 @@ module _ {bytes ws us : List ℕ} {variables top at number : ℕ} (b : Begun byt
     formed = r .grown .formed;
     above = r .grown .grows;
     few = omega (arith, r .grown .few);
-    argument = λ _. r .grown .within .0;
+    known = (known-row number (b .kind) (λ a. clash a (omega arith)), λ _. r .grown .within .0);
   }
 
   pub opens-no-argument : (r : Parse) {x : Refusal} → NoTerm r → ExpressionRead ws us registerNodes bytes (length bytes) variables (at + 1) top r → x ≡ refusalOf r (length bytes) → Opens bytes ws us variables top at (Refused x)
@@ -275,7 +283,7 @@ module _ {bytes ws us : List ℕ} {variables top at number : ℕ} (b : Begun byt
     formed = formed-less top (a .grown .grows) (a .grown .formed);
     above = omega arith;
     few = omega arith;
-    argument = tt;
+    known = tt;
   }
 
 -- ---- needs of the code

@@ -43,4 +43,5 @@ pub record Plannable (ws words : List ℕ) (scope : Scope) (number argument : �
   pub space : Space ws top 4
   pub below : ClaimBelow top claim
   pub bounded : ClaimBounded (scope .variables) (claimOf ws claim)
+  pub known : number < length rules
   pub held : Argument ≡ formOf (getElem? rules number) → argument < top

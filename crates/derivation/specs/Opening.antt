@@ -85,14 +85,14 @@ pub record Opening (ws : List ℕ) (variables top : ℕ) : Type 0 where
   pub registers : RegisterTerms ws registerNodes registerVariables
   pub most : variables ≤ mostVariables
 
--- the table's new top, and the argument's node below it
+-- the table's new top; the rule is known, and its argument, if it is a node, is below the new top
 abbrev pub topOf : (top : ℕ) → Opened → ℕ
 topOf top (OpenRule number v next t) = t
 topOf top (Refused f) = top
 
-abbrev pub ArgumentBelow : Opened → Type 0
-ArgumentBelow (OpenRule number v next t) = Argument ≡ formOf (getElem? rules number) → v < t
-ArgumentBelow (Refused f) = Unit {0}
+abbrev pub Known : Opened → Type 0
+Known (OpenRule number v next t) = (number < length rules) × (Argument ≡ formOf (getElem? rules number) → v < t)
+Known (Refused f) = Unit {0}
 
 pub record Opens (bytes ws us : List ℕ) (variables top at : ℕ) (r : Opened) : Type 0 where
   pub answer : openedOf us r ≡ ruleAt bytes variables at
@@ -100,4 +100,4 @@ pub record Opens (bytes ws us : List ℕ) (variables top at : ℕ) (r : Opened) 
   pub formed : Formed us (topOf top r)
   pub above : top ≤ topOf top r
   pub few : topOf top r ≤ top + mostNodes
-  pub argument : ArgumentBelow r
+  pub known : Known r
