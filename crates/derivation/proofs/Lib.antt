@@ -3,3 +3,5 @@ pub mod BoundLaws
 pub mod RuleLaws
 pub mod OpeningLaws
 pub mod PlanLaws
+pub mod ApplyLaws
+pub mod DerivationLaws

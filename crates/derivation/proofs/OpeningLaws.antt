@@ -259,7 +259,7 @@ nodes-below : Every (λ k. getD registerNodes k 0 < 16) (downFrom 16)
 unfolding downFrom
 nodes-below = search (_&_, empty, lit<, tt) depth 60
 
-register-below : (v : ℕ) → v < 16 → getD registerNodes v 0 < 16
+pub register-below : (v : ℕ) → v < 16 → getD registerNodes v 0 < 16
 register-below v h = each-below 16 nodes-below v h
 
 pub opening-ready : {ws : List ℕ} {variables top : ℕ} → Opening ws variables top → Ready ws registerNodes top mostNodes

@@ -49,8 +49,11 @@ abbrev pub fitting : Bool → List Atom → Fit (List Atom)
 fitting true atoms = value atoms
 fitting false atoms = stop misfit
 
+abbrev pub premisesOf : List ℕ → Plan → List Atom
+premisesOf us p = ofThree (p .count) (atomIn us (p .first)) (atomIn us (p .second)) (atomIn us (p .third))
+
 abbrev pub planOf : List ℕ → Plan → Fit (List Atom)
-planOf us p = fitting (p .fits) (ofThree (p .count) (atomIn us (p .first)) (atomIn us (p .second)) (atomIn us (p .third)))
+planOf us p = fitting (p .fits) (premisesOf us p)
 
 -- ---- the contract
 abbrev pub PremiseBelow : (top : ℕ) → Premise → Type 0

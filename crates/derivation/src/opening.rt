@@ -135,13 +135,7 @@ fn with_argument(
 }
 
 // The rule at a position.
-pub fn read_rule(
-    bytes: &[u8],
-    ws: &mut [u32],
-    variables: usize,
-    top: usize,
-    at: usize,
-) -> Opened
+pub fn read_rule(bytes: &[u8], ws: &mut [u32], variables: usize, top: usize, at: usize) -> Opened
     requires { ⌜ Opening (now ws) variables top ⌝ }
     ensures { λ r. ⌜ Opens (now (bytes .entry)) (now (ws .entry)) (now (ws .exit)) variables top at r ⌝ }
 {

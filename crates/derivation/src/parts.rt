@@ -109,13 +109,7 @@ pub fn is_constant(ws: &[u32], i: usize, value: u32) -> bool
 }
 
 // Whether a comparison of two nodes is assumption k, node by node.
-pub fn is_assumption(
-    ws: &[u32],
-    k: usize,
-    kind: Comparison,
-    left: usize,
-    right: usize,
-) -> bool
+pub fn is_assumption(ws: &[u32], k: usize, kind: Comparison, left: usize, right: usize) -> bool
     requires { ⌜ (k < mostAssumptions) × (workspaceWords ≤ length (now ws)) ⌝ }
     requires { ⌜ Formed (now ws) (suc left) ⌝ }
     requires { ⌜ Formed (now ws) (suc right) ⌝ }

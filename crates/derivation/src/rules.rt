@@ -181,7 +181,14 @@ fn symmetric(claim: Claim, kind: Comparison, top: usize) -> Plan
 }
 
 // Rules 5 to 8: a claim of the kind `whole` from a ~ m of the kind `first` and m ~ c of the kind `second`.
-fn through(claim: Claim, whole: Comparison, first: Comparison, second: Comparison, m: usize, top: usize) -> Plan
+fn through(
+    claim: Claim,
+    whole: Comparison,
+    first: Comparison,
+    second: Comparison,
+    m: usize,
+    top: usize,
+) -> Plan
     requires { ⌜ ClaimBelow top claim ⌝ }
     requires { ⌜ m < top ⌝ }
     ensures { λ r. ⌜ ((ws : List ℕ) → Formed ws top → Planned Anywhere (always (throughPremises whole first second (termAt ws m) (claimOf ws claim))) ws ws top r) ⌝ }
