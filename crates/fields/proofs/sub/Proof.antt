@@ -1,0 +1,16 @@
+use native.Mathlib.Omega.{arith}
+use borrow.Author.Needs.{needs}
+use Rattle.model.specs.Word.{addW}
+use Rattle.fields.proofs.Laws as laws
+use Rattle.fields.proofs.sub.Statement.{statement}
+use Rattle.fields.proofs.sub.Tie as tie
+
+wrapping-sub-u32-requires : tie.Need-wrapping-sub-u32-requires
+wrapping-sub-u32-requires c κs = search needs
+
+returns : tie.Need-returns
+unfolding addW
+returns c = laws.sub-only _ _ _ (omega arith) (omega arith) (omega arith) (c .wrapping-sub-u32 .ensures)
+
+pub sub-spec : {M : Type 1} → statement M
+sub-spec = tie.close (tie.spec wrapping-sub-u32-requires returns)
