@@ -1,3 +1,4 @@
 pub mod Workspace
 pub mod Table
 pub mod Closed
+pub mod Reader

@@ -1,10 +1,12 @@
 // The term table in the lent workspace: node i lies in the three words from TABLE + 3 * i, a tag and two words.
+pub mod reader;
+
 ghost use mathlib.Core.Path.{_≡_};
-ghost use Prim.Native.Nat.{ℕ, suc, _+_, _-_, _*_, _≤_, _<_};
+ghost use Prim.Native.Nat.{suc, _+_, _-_, _*_, _≤_, _<_};
 ghost use lib.ListN.{length};
 ghost use lib.Dec.{leb};
 ghost use Rattle.model.specs.Word.{addW, subW};
-ghost use Rattle.model.specs.Term.{Term, constant, variable, sum, difference, eqTerm, size};
+ghost use Rattle.model.specs.Term.{constant, variable, sum, difference, eqTerm, size};
 ghost use Rattle.terms.specs.Workspace.{mostVariables, stored};
 ghost use Rattle.terms.specs.Table.{viewOf, termAt, place, Formed, Space, Put};
 ghost use Rattle.terms.specs.Closed.{closedValue, bothValues};

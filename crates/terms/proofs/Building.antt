@@ -1,0 +1,230 @@
+-- Laws of the reader that builds in the table: one for each way out. Assumes nothing.
+use mathlib.Core.Path.{_≡_, refl, sym, ap, subst, _∙_, fun-ext}
+use mathlib.Core.Logic.{⊎-elim, _⊎_, _≢_}
+use mathlib.Core.Option.{some}
+use mathlib.Core.List.{List}
+use Prim.Native.Nat.{ℕ, zero, suc, _+_, _-_, _<_, _≤_}
+use native.Mathlib.Numerals.{add-one}
+use native.Mathlib.Omega.{arith}
+use native.Mathlib.Decide.{decLt}
+use lib.ListN.{length, getD, getElem?}
+use borrow.Author.Tests.{lt-ltb, le-ltb}
+use denote.Enum.Declared.{tagOf, declared}
+use Rattle.model.specs.Word.{le16, le32}
+use Rattle.model.specs.Result.{value, _>>=_}
+use Rattle.model.specs.Term.{Term, constant, variable, sum, difference}
+use Rattle.model.specs.Expression.{Form, four-byte-constant, two-byte-variable, forms, Nodes, nodesAt}
+use Rattle.terms.specs.Workspace.{tableBase, Same}
+use Rattle.terms.specs.Table.{place, termAt, Formed, Space, Put}
+use Rattle.terms.specs.Reader.{mapped, nodesOver, variableTerm, operationOf, nodesOf, topAfter, leftAfter, Within, Ready, Grown, NodeRead, NodesRead}
+use Rattle.terms.specs.declared.reader.Parse.{Parse}
+use Rattle.terms.specs.declared.reader.Parse.the-variants.{Term as Found, Missing, Fault}
+use Rattle.terms.proofs.reader.Parse.{enum}
+use Rattle.terms.proofs.Frames.{same-refl, same-trans, same-within}
+use Rattle.terms.proofs.Table.{term-same, formed-less}
+use Rattle.terms.proofs.Reading.{form-pair, form-unknown, constant-missing, constant-found, variable-missing, variable-fault, variable-found, nodes-missing, nodes-spent, nodes-unknown, nodes-form, pairOf, operation-keeps, pair-over, node-pair}
+
+-- ---- the term of a variable
+pub variable-register : (ws registers : List ℕ) (v : ℕ) → v < 16 → termAt ws (getD registers v 0) ≡ variableTerm ws registers v
+unfolding variableTerm
+variable-register ws registers v h = rw (lt-ltb v 16 h, variableTerm)
+
+pub variable-new : (ws registers : List ℕ) (v : ℕ) → 16 ≤ v → variable v ≡ variableTerm ws registers v
+unfolding variableTerm
+variable-new ws registers v h = rw (le-ltb v 16 h, variableTerm)
+
+-- words that keep the table give each variable the same term
+pub variable-same : {ws us : List ℕ} (registers : List ℕ) (top : ℕ) → ((v : ℕ) → v < 16 → getD registers v 0 < top) → Same 0 (place top) ws us → variableTerm us registers ≡ variableTerm ws registers
+variable-same {ws} {us} registers top r s = fun-ext (λ v. at v (decLt v 16))
+  where
+    at : (v : ℕ) → Dec (v < 16) → variableTerm us registers v ≡ variableTerm ws registers v
+    at v (yes h) = sym (variable-register us registers v h) ∙ term-same top (same-within tableBase (place top) (omega arith) (omega arith) s) (getD registers v 0) (r v h) ∙ variable-register ws registers v h
+    at v (no h) = sym (variable-new us registers v (omega arith)) ∙ variable-new ws registers v (omega arith)
+
+-- ---- an answer that is no term
+abbrev pub Refused : Parse → Type 0
+Refused r = (tagOf (declared enum) r ≡ 1) ⊎ (tagOf (declared enum) r ≡ 2)
+
+pub no-term : {A : Type 0} → (_≡_ {A = ℕ} 0 1) ⊎ (_≡_ {A = ℕ} 0 2) → A
+no-term o = ⊎-elim (λ (e : 0 ≡ 1). absurd (omega arith)) (λ (e : 0 ≡ 2). absurd (omega arith)) o
+
+-- ---- the table after an answer
+-- an answer that leaves the top where it was
+grown-level : {ws us : List ℕ} {end top left : ℕ} (r : Parse) → topAfter top r ≡ top → leftAfter left r ≤ left → Within end r → Same 0 (place top) ws us → Formed us top → Grown ws us end top left r
+grown-level {us = us} r e l w s f = record { kept = s; formed = subst (Formed us) (sym e) f; within = w; grows = omega arith; few = omega arith }
+
+module _ {ws : List ℕ} {end top left : ℕ} (f : Formed ws top) where
+  grown-missing : Grown ws ws end top left Missing
+  grown-missing = grown-level Missing refl (omega arith) tt (same-refl 0 (place top) ws) f
+
+  grown-fault : (p : ℕ) → Grown ws ws end top left (Fault p)
+  grown-fault p = grown-level (Fault p) refl (omega arith) tt (same-refl 0 (place top) ws) f
+
+  grown-register : {a next : ℕ} → a < top → next ≤ end → Grown ws ws end top left (Found a next (left - 1) top)
+  grown-register h n = grown-level (Found _ _ _ _) refl (omega arith) (h, n) (same-refl 0 (place top) ws) f
+
+grown-put : {ws us : List ℕ} {end top left next : ℕ} {t : Term} → 0 < left → next ≤ end → Put ws us top t → Grown ws us end top left (Found top next (left - 1) (top + 1))
+grown-put {us = us} {top = top} h n p = record { kept = p .kept; formed = subst (Formed us) (sym (add-one top)) (p .formed); within = (omega arith, n); grows = omega arith; few = omega arith }
+
+-- where the answer is no term, the top and the nodes left are those before
+pub kept-before : {ws us vs : List ℕ} {top t : ℕ} → top ≤ t → Same 0 (place top) ws us → Same 0 (place t) us vs → Same 0 (place top) ws vs
+kept-before {top = top} h s k = same-trans s (same-within 0 (place top) (omega arith) (omega arith) k)
+
+grown-refused : {ws us vs : List ℕ} {end top t left l : ℕ} (r : Parse) → Refused r → top ≤ t → Same 0 (place top) ws us → Grown us vs end t l r → Grown ws vs end top left r
+grown-refused (Found a n l t) o h s g = no-term o
+grown-refused {top = top} Missing o h s g = grown-level Missing refl (omega arith) tt (kept-before h s (g .kept)) (formed-less top h (g .formed))
+grown-refused {top = top} (Fault p) o h s g = grown-level (Fault p) refl (omega arith) tt (kept-before h s (g .kept)) (formed-less top h (g .formed))
+
+-- ---- the ways out of `read_constant` and `read_variable`
+module _ {ws registers bytes : List ℕ} {end limit at left top : ℕ} (y : Ready ws registers top left) (h : at < end) (s : 0 < left) where
+  pub read-constant-missing : end - at < 5 → NodeRead ws ws registers bytes end limit at left top four-byte-constant Missing
+  read-constant-missing k = record { answer = λ o. constant-missing bytes end limit _ o left at (omega arith); grown = grown-missing (y .formed) }
+
+  pub read-constant-found : {us : List ℕ} {c : ℕ} → 5 ≤ end - at → c ≡ le32 bytes (at + 1) → Put ws us top (constant c) → NodeRead ws us registers bytes end limit at left top four-byte-constant (Found top (at + 5) (left - 1) (top + 1))
+  read-constant-found k e p = record { answer = λ o. constant-found bytes end limit _ o left at (omega arith) e (p .is); grown = grown-put s (omega arith) p }
+
+  pub read-variable-missing : end - at < 3 → NodeRead ws ws registers bytes end limit at left top two-byte-variable Missing
+  read-variable-missing k = record { answer = λ o. variable-missing bytes end limit _ o left at (omega arith); grown = grown-missing (y .formed) }
+
+  module _ {v : ℕ} (k : 3 ≤ end - at) (e : v ≡ le16 bytes (at + 1)) where
+    pub read-variable-fault : limit ≤ v → NodeRead ws ws registers bytes end limit at left top two-byte-variable (Fault (at + 1))
+    read-variable-fault l = record { answer = λ o. variable-fault bytes end limit _ o left at (omega arith) e l; grown = grown-fault (y .formed) (at + 1) }
+
+    module _ (l : v < limit) where
+      pub read-variable-register : {a : ℕ} → v < 16 → a ≡ getD registers v 0 → NodeRead ws ws registers bytes end limit at left top two-byte-variable (Found a (at + 3) (left - 1) top)
+      read-variable-register m d = record {
+        answer = λ o. variable-found bytes end limit _ o left at (omega arith) e l (ap (termAt ws) d ∙ variable-register ws registers v m);
+        grown = grown-register (y .formed) (omega (arith, y .held v m)) (omega arith);
+      }
+
+      pub read-variable-new : {us : List ℕ} → 16 ≤ v → Put ws us top (variable v) → NodeRead ws us registers bytes end limit at left top two-byte-variable (Found top (at + 3) (left - 1) (top + 1))
+      read-variable-new m p = record {
+        answer = λ o. variable-found bytes end limit _ o left at (omega arith) e l (p .is ∙ variable-new ws registers v m);
+        grown = grown-put s (omega arith) p;
+      }
+
+-- ---- the ways out of `read`
+-- with a node left, the depth is one more than some other
+by-depth : {o : Nodes} (σ : ℕ → Term) (bytes : List ℕ) (end limit left at : ℕ) → left ≢ 0 → ((d : ℕ) → left - 1 ≤ d → o ≡ nodesOver σ (nodesAt bytes end limit (suc d) left at)) → (d : ℕ) → left ≤ d → o ≡ nodesOver σ (nodesAt bytes end limit d left at)
+by-depth σ bytes end limit left at s k zero l = absurd (omega arith)
+by-depth σ bytes end limit left at s k (suc d) l = k d (omega arith)
+
+pair-refused : (operation : Term → Term → Term) (y : (left p : ℕ) → Nodes) (us : List ℕ) (r : Parse) → Refused r → nodesOf us r ≡ pairOf operation (nodesOf us r) y
+unfolding _>>=_
+pair-refused operation y us (Found a n l t) o = no-term o
+pair-refused operation y us Missing o = refl
+pair-refused operation y us (Fault p) o = refl
+
+abbrev secondOf : (Term → Term → Term) → Term → Nodes → Nodes
+secondOf operation s y = y >>= (λ z. value (operation s (z .0), z .1, z .2))
+
+second-refused : (operation : Term → Term → Term) (s : Term) (us : List ℕ) (r : Parse) → Refused r → nodesOf us r ≡ secondOf operation s (nodesOf us r)
+unfolding _>>=_
+second-refused operation s us (Found a n l t) o = no-term o
+second-refused operation s us Missing o = refl
+second-refused operation s us (Fault p) o = refl
+
+module _ {ws registers bytes : List ℕ} {end limit at left top : ℕ} (y : Ready ws registers top left) where
+  pub read-missing : end ≤ at → NodesRead ws ws registers bytes end limit at left top Missing
+  unfolding mapped
+  read-missing h = record { answer = λ d l. ap (nodesOver (variableTerm ws registers)) (nodes-missing bytes end limit left at d h); grown = grown-missing (y .formed) }
+
+  module _ (h : at < end) where
+    pub read-spent : left ≡ 0 → NodesRead ws ws registers bytes end limit at left top (Fault at)
+    unfolding mapped
+    read-spent e = record { answer = λ d l. ap (nodesOver (variableTerm ws registers)) (nodes-spent bytes end limit left at h d e); grown = grown-fault (y .formed) at }
+
+    module _ (s : left ≢ 0) where
+      pub read-unknown : 4 ≤ getD bytes at 0 → NodesRead ws ws registers bytes end limit at left top (Fault at)
+      unfolding mapped
+      read-unknown u = record {
+        answer = by-depth (variableTerm ws registers) bytes end limit left at s (λ d l. ap (nodesOver (variableTerm ws registers)) (nodes-unknown bytes end limit left at h d s (form-unknown (getD bytes at 0) u)));
+        grown = grown-fault (y .formed) at;
+      }
+
+      -- a constant, tag 0, or a variable, tag 1
+      pub read-leaf : {us : List ℕ} {r : Parse} {form : Form} (tag : ℕ) → getD bytes at 0 ≡ tag → getElem? forms tag ≡ some form → NodeRead ws us registers bytes end limit at left top form r → NodesRead ws us registers bytes end limit at left top r
+      read-leaf tag e k a = record {
+        answer = by-depth (variableTerm ws registers) bytes end limit left at s (λ d l. a .answer _ ∙ ap (nodesOver (variableTerm ws registers)) (nodes-form bytes end limit left at h d s (ap (getElem? forms) e ∙ k)));
+        grown = a .grown;
+      }
+
+      module _ (z : getD bytes at 0 ≢ 0) (o : getD bytes at 0 ≢ 1) (u : getD bytes at 0 < 4) where
+        -- what is read, once the first operand is
+        from-first : (d : ℕ) → left - 1 ≤ d → {us : List ℕ} {r : Parse} → NodesRead ws us registers bytes end limit (at + 1) (left - 1) top r
+            → pairOf (operationOf (getD bytes at 0)) (nodesOf us r) (λ l q. nodesOver (variableTerm ws registers) (nodesAt bytes end limit d l q)) ≡ nodesOver (variableTerm ws registers) (nodesAt bytes end limit (suc d) left at)
+        from-first d l a =
+            let σ : ℕ → Term = variableTerm ws registers in
+            let tag : ℕ = getD bytes at 0 in
+            ap (λ x. pairOf (operationOf tag) x (λ l q. nodesOver σ (nodesAt bytes end limit d l q))) (a .answer d l)
+            ∙ sym (pair-over σ (operationOf tag) (operation-keeps tag σ) (nodesAt bytes end limit d (left - 1) (at + 1)) (λ l q. nodesAt bytes end limit d l q))
+            ∙ ap (nodesOver σ) (node-pair bytes end limit (λ l q. nodesAt bytes end limit d l q) (operationOf tag) left at)
+            ∙ ap (nodesOver σ) (nodes-form bytes end limit left at h d s (form-pair tag (omega arith) u))
+
+        pub read-first-refused : {us : List ℕ} {r : Parse} → Refused r → NodesRead ws us registers bytes end limit (at + 1) (left - 1) top r → NodesRead ws us registers bytes end limit at left top r
+        read-first-refused {us} {r} q a = record {
+          answer = by-depth (variableTerm ws registers) bytes end limit left at s (λ d l. pair-refused (operationOf (getD bytes at 0)) _ us r q ∙ from-first d l a);
+          grown = grown-refused r q (omega arith) (same-refl 0 (place top) ws) (a .grown);
+        }
+
+        module _ {us vs : List ℕ} {a1 n1 l1 t1 : ℕ} {r : Parse} (p : NodesRead ws us registers bytes end limit (at + 1) (left - 1) top (Found a1 n1 l1 t1)) (q : NodesRead us vs registers bytes end limit n1 l1 t1 r) where
+          -- what is read, once the second operand is: its variables have the terms from before the first
+          from-second : (d : ℕ) → left - 1 ≤ d → secondOf (operationOf (getD bytes at 0)) (termAt us a1) (nodesOf vs r) ≡ nodesOver (variableTerm ws registers) (nodesAt bytes end limit (suc d) left at)
+          unfolding _>>=_
+          from-second d l = rw (q .answer d (omega (arith, p .grown .few, p .grown .grows)), variable-same registers top (y .held) (p .grown .kept)) (from-first d l p)
+
+          pub read-second-refused : Refused r → NodesRead ws vs registers bytes end limit at left top r
+          read-second-refused x = record {
+            answer = by-depth (variableTerm ws registers) bytes end limit left at s (λ d l. second-refused (operationOf (getD bytes at 0)) (termAt us a1) vs r x ∙ from-second d l);
+            grown = grown-refused r x (p .grown .grows) (p .grown .kept) (q .grown);
+          }
+
+        pub read-pair : {us vs xs : List ℕ} {a1 n1 l1 t1 a2 n2 l2 t2 : ℕ} → NodesRead ws us registers bytes end limit (at + 1) (left - 1) top (Found a1 n1 l1 t1) → NodesRead us vs registers bytes end limit n1 l1 t1 (Found a2 n2 l2 t2)
+            → Put vs xs t2 (operationOf (getD bytes at 0) (termAt vs a1) (termAt vs a2)) → NodesRead ws xs registers bytes end limit at left top (Found t2 n2 l2 (t2 + 1))
+        unfolding _>>=_
+        read-pair {us} {vs} {xs} {a1} {n1} {l1} {t1} {a2} {n2} {l2} {t2} p q w =
+            let one : termAt vs a1 ≡ termAt us a1 = term-same t1 (same-within tableBase (place t1) (omega arith) (omega arith) (q .grown .kept)) a1 (p .grown .within .0) in
+            let is : termAt xs t2 ≡ operationOf (getD bytes at 0) (termAt us a1) (termAt vs a2) = rw (← one) (w .is) in
+            record {
+              answer = by-depth (variableTerm ws registers) bytes end limit left at s (λ d l. ap (λ t. value (t, n2, l2)) is ∙ from-second p q d l);
+              grown = record {
+                kept = kept-before (p .grown .grows) (p .grown .kept) (kept-before (q .grown .grows) (q .grown .kept) (w .kept));
+                formed = subst (Formed xs) (sym (add-one t2)) (w .formed);
+                within = (omega arith, q .grown .within .1);
+                grows = omega (arith, p .grown .grows, q .grown .grows);
+                few = omega (arith, p .grown .few, q .grown .few);
+              };
+            }
+
+-- ---- what the two calls and the new node ask
+pub told : {ws us registers bytes : List ℕ} {end limit at left top : ℕ} {r q : Parse} → NodesRead ws us registers bytes end limit at left top r → r ≡ q → NodesRead ws us registers bytes end limit at left top q
+told {ws} {us} {registers} {bytes} {end} {limit} {at} {left} {top} a e = subst (NodesRead ws us registers bytes end limit at left top) e a
+
+pub ready-fewer : {ws registers : List ℕ} {top left : ℕ} (l : ℕ) → l ≤ left → Ready ws registers top left → Ready ws registers top l
+ready-fewer l h y = record { formed = y .formed; space = record { words = y .space .words; fits = omega (arith, y .space .fits) }; held = y .held }
+
+-- room is left for l nodes above a table that has grown to t
+pub ready-after : {ws us registers : List ℕ} {top left : ℕ} (t l : ℕ) → top ≤ t → t + l ≤ top + left → Formed us t → length us ≡ length ws → Ready ws registers top left → Ready us registers t l
+ready-after t l g h f e y = record { formed = f; space = record { words = omega (arith, y .space .words); fits = omega (arith, y .space .fits) }; held = λ v b. omega (arith, y .held v b) }
+
+module _ {ws us registers : List ℕ} {end top left a1 n1 l1 t1 : ℕ} (y : Ready ws registers top left) (s : left ≢ 0) (g : Grown ws us end top (left - 1) (Found a1 n1 l1 t1)) (e : length us ≡ length ws) where
+  pub ready-second : Ready us registers t1 l1
+  ready-second = ready-after t1 l1 (g .grows) (omega (arith, g .few)) (g .formed) e y
+
+  pub left-falls : l1 < left
+  left-falls = omega (arith, g .few, g .grows)
+
+  module _ {vs : List ℕ} {a2 n2 l2 t2 : ℕ} (k : Grown us vs end t1 l1 (Found a2 n2 l2 t2)) (d : length vs ≡ length us) where
+    pub pair-space : Space vs t2 1
+    pair-space = record { words = omega (arith, y .space .words); fits = omega (arith, y .space .fits, g .few, k .few) }
+
+    pub pair-parts : (a1 < t2) × (a2 < t2)
+    pair-parts = (omega (arith, g .within .0, k .grows), k .within .0)
+
+-- ---- the ways out of `put_pair`
+module _ {ws us : List ℕ} {top : ℕ} {s t : Term} (tag : ℕ) where
+  pub pair-sum : tag ≡ 2 → Put ws us top (sum s t) → Put ws us top (operationOf tag s t)
+  pair-sum e p = rw e p
+
+  pub pair-difference : tag ≢ 2 → (1 < tag) × (tag < 4) → Put ws us top (difference s t) → Put ws us top (operationOf tag s t)
+  pair-difference n h p = let e : tag ≡ 3 = omega arith in rw e p

@@ -1,0 +1,27 @@
+use Rattle.terms.proofs.Building.{pair-sum, pair-difference}
+use borrow.Author.Needs.{needs}
+use Rattle.terms.proofs.reader.put_pair.Statement.{statement}
+use Rattle.terms.proofs.reader.put_pair.Tie as tie
+
+put-sum-requires : tie.Need-put-sum-requires
+put-sum-requires c κs = search needs
+
+same-length : tie.Need-same-length
+same-length c = search needs
+
+returns : tie.Need-returns
+returns c = pair-sum _ (c .before .before .before .before .if1 .taken) (c .before .before .put-sum .ensures)
+
+put-difference-requires : tie.Need-put-difference-requires
+put-difference-requires c κs = search needs
+
+same-length-2 : tie.Need-same-length-2
+same-length-2 c = search needs
+
+returns-2 : tie.Need-returns-2
+returns-2 c = pair-difference _ (c .before .before .before .before .if1 .left) (c .before .before .before .before .before .before .pre .1 .1 .1) (c .before .before .put-difference .ensures)
+
+pub put-pair-spec : {M : Type 1} → statement M
+put-pair-spec =
+    tie.close
+    (tie.spec put-sum-requires same-length returns put-difference-requires same-length-2 returns-2)

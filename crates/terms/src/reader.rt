@@ -1,0 +1,264 @@
+// The reader that builds an expression in the term table. Variable v below 16 is the node registers[v].
+use model::Comparison;
+ghost use mathlib.Core.Path.{_≡_};
+ghost use Prim.Native.Nat.{_+_, _≤_, _<_};
+ghost use lib.ListN.{length};
+ghost use Rattle.model.specs.Expression.{mostNodes, four-byte-constant, two-byte-variable};
+ghost use Rattle.terms.specs.Workspace.{mostVariables};
+ghost use Rattle.terms.specs.Table.{termAt, Formed, Space, Put};
+ghost use Rattle.terms.specs.Reader.{operationOf, kindOf, unreadOf, atomNodes, Ready, NodeRead, NodesRead, ExpressionRead, AtomRead};
+
+// What reading an expression gives: its node, the next position, the nodes left and the table's new top; or bytes are missing; or a
+// fault at a position.
+pub enum Parse {
+    Term {
+        number: usize,
+        next: usize,
+        left: usize,
+        top: usize,
+    },
+    Missing,
+    Fault(usize),
+}
+
+// What reading an atom gives: the nodes of its sides, the next position and the table's new top.
+pub enum AtomParse {
+    Atom {
+        kind: Comparison,
+        left: usize,
+        right: usize,
+        next: usize,
+        top: usize,
+    },
+    Missing,
+    Fault(usize),
+}
+
+// The constant after the tag at `at`, as a new node.
+fn read_constant(
+    bytes: &[u8],
+    ws: &mut [u32],
+    end: usize,
+    limit: usize,
+    registers: [u32; 16],
+    at: usize,
+    left: usize,
+    top: usize,
+) -> Parse
+    requires { ⌜ (at < end) × (end ≤ length (now bytes)) × (0 < left) ⌝ }
+    requires { ⌜ Ready (now ws) registers top left ⌝ }
+    ensures { λ r. ⌜ NodeRead (now (ws .entry)) (now (ws .exit)) registers (now (bytes .entry)) end limit at left top four-byte-constant r ⌝ }
+{
+    if end - at < 5 {
+        return Parse::Missing;
+    }
+    crate::put_constant(ws, top, fields::word(bytes, at + 1));
+    Parse::Term {
+        number: top,
+        next: at + 5,
+        left: left - 1,
+        top: top + 1,
+    }
+}
+
+// The variable after the tag at `at`: a register's node, or a new one.
+fn read_variable(
+    bytes: &[u8],
+    ws: &mut [u32],
+    end: usize,
+    limit: usize,
+    registers: [u32; 16],
+    at: usize,
+    left: usize,
+    top: usize,
+) -> Parse
+    requires { ⌜ (at < end) × (end ≤ length (now bytes)) × (0 < left) ⌝ }
+    requires { ⌜ limit ≤ mostVariables ⌝ }
+    requires { ⌜ Ready (now ws) registers top left ⌝ }
+    ensures { λ r. ⌜ NodeRead (now (ws .entry)) (now (ws .exit)) registers (now (bytes .entry)) end limit at left top two-byte-variable r ⌝ }
+{
+    if end - at < 3 {
+        return Parse::Missing;
+    }
+    let v = fields::half(bytes, at + 1);
+    if limit <= v {
+        return Parse::Fault(at + 1);
+    }
+    if v < 16 {
+        return Parse::Term {
+            number: fields::wide(registers[v]),
+            next: at + 3,
+            left: left - 1,
+            top,
+        };
+    }
+    crate::put_variable(ws, top, v as u32);
+    Parse::Term {
+        number: top,
+        next: at + 3,
+        left: left - 1,
+        top: top + 1,
+    }
+}
+
+// Puts the sum, for tag 2, or the difference, for tag 3, of two nodes at node top.
+fn put_pair(ws: &mut [u32], top: usize, tag: u8, left: usize, right: usize)
+    requires { ⌜ Formed (now ws) top ⌝ }
+    requires { ⌜ Space (now ws) top 1 ⌝ }
+    requires { ⌜ (left < top) × (right < top) ⌝ }
+    requires { ⌜ (1 < tag) × (tag < 4) ⌝ }
+    ensures { λ _. ⌜ Put (now (ws .entry)) (now (ws .exit)) top (operationOf tag (termAt (now (ws .entry)) left) (termAt (now (ws .entry)) right)) ⌝ }
+{
+    if tag == 2 {
+        crate::put_sum(ws, top, left, right);
+        return;
+    }
+    crate::put_difference(ws, top, left, right);
+}
+
+// The expression at `at`, of at most `left` nodes, its variables below the limit.
+fn read(
+    bytes: &[u8],
+    ws: &mut [u32],
+    end: usize,
+    limit: usize,
+    registers: [u32; 16],
+    at: usize,
+    left: usize,
+    top: usize,
+) -> Parse
+    requires { ⌜ (end ≤ length (now bytes)) × (limit ≤ mostVariables) ⌝ }
+    requires { ⌜ Ready (now ws) registers top left ⌝ }
+    ensures { λ r. ⌜ NodesRead (now (ws .entry)) (now (ws .exit)) registers (now (bytes .entry)) end limit at left top r ⌝ }
+{
+    if end <= at {
+        return Parse::Missing;
+    }
+    if left == 0 {
+        return Parse::Fault(at);
+    }
+    let tag = bytes[at];
+    match tag {
+        0 => read_constant(bytes, ws, end, limit, registers, at, left, top),
+        1 => read_variable(bytes, ws, end, limit, registers, at, left, top),
+        2 | 3 => {
+            let first = read(bytes, ws, end, limit, registers, at + 1, left - 1, top);
+            let Parse::Term {
+                number: a,
+                next: middle,
+                left: fewer,
+                top: above,
+            } = first
+            else {
+                return first;
+            };
+            let second = read(bytes, ws, end, limit, registers, middle, fewer, above);
+            let Parse::Term {
+                number: b,
+                next: after,
+                left: last,
+                top: high,
+            } = second
+            else {
+                return second;
+            };
+            put_pair(ws, high, tag, a, b);
+            Parse::Term {
+                number: high,
+                next: after,
+                left: last,
+                top: high + 1,
+            }
+        }
+        _ => Parse::Fault(at),
+    }
+}
+
+// The expression at `at`, of at most 31 nodes.
+pub fn expression(
+    bytes: &[u8],
+    ws: &mut [u32],
+    end: usize,
+    limit: usize,
+    registers: [u32; 16],
+    at: usize,
+    top: usize,
+) -> Parse
+    requires { ⌜ (end ≤ length (now bytes)) × (limit ≤ mostVariables) ⌝ }
+    requires { ⌜ Ready (now ws) registers top mostNodes ⌝ }
+    ensures { λ r. ⌜ ExpressionRead (now (ws .entry)) (now (ws .exit)) registers (now (bytes .entry)) end limit at top r ⌝ }
+{
+    read(bytes, ws, end, limit, registers, at, 31, top)
+}
+
+// The comparison of a tag; a tag above 3 has none, and is taken for 3.
+pub fn comparison(tag: u32) -> Comparison
+    ensures { λ r. ⌜ r ≡ kindOf tag ⌝ }
+{
+    match tag {
+        0 => Comparison::Equal,
+        1 => Comparison::Unequal,
+        2 => Comparison::Less,
+        _ => Comparison::AtMost,
+    }
+}
+
+// An expression that cannot be read, as the answer for the atom that it stands in.
+fn unread(answer: Parse) -> AtomParse
+    ensures { λ r. ⌜ r ≡ unreadOf answer ⌝ }
+{
+    match answer {
+        Parse::Fault(p) => AtomParse::Fault(p),
+        _ => AtomParse::Missing,
+    }
+}
+
+// The atom at `at`.
+pub fn atom(
+    bytes: &[u8],
+    ws: &mut [u32],
+    end: usize,
+    limit: usize,
+    registers: [u32; 16],
+    at: usize,
+    top: usize,
+) -> AtomParse
+    requires { ⌜ (end ≤ length (now bytes)) × (limit ≤ mostVariables) ⌝ }
+    requires { ⌜ Ready (now ws) registers top atomNodes ⌝ }
+    ensures { λ r. ⌜ AtomRead (now (ws .entry)) (now (ws .exit)) registers (now (bytes .entry)) end limit at top r ⌝ }
+{
+    if end <= at {
+        return AtomParse::Missing;
+    }
+    let tag = bytes[at];
+    if 3 < tag {
+        return AtomParse::Fault(at);
+    }
+    let first = expression(bytes, ws, end, limit, registers, at + 1, top);
+    let Parse::Term {
+        number: left,
+        next: middle,
+        left: _,
+        top: above,
+    } = first
+    else {
+        return unread(first);
+    };
+    let second = expression(bytes, ws, end, limit, registers, middle, above);
+    let Parse::Term {
+        number: right,
+        next: after,
+        left: _,
+        top: high,
+    } = second
+    else {
+        return unread(second);
+    };
+    AtomParse::Atom {
+        kind: comparison(tag as u32),
+        left,
+        right,
+        next: after,
+        top: high,
+    }
+}
