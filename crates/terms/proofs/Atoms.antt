@@ -6,16 +6,17 @@ use mathlib.Core.List.{List}
 use Prim.Native.Nat.{ℕ, zero, suc, _+_, _-_, _<_, _≤_}
 use native.Mathlib.Omega.{arith}
 use lib.ListN.{length, getD}
-use denote.Enum.Declared.{tagOf, declared}
+use denote.Enum.Declared.{tagOf as variantOf, declared}
 use Rattle.model.specs.Result.{Result, _>>=_}
 use Rattle.model.specs.Term.{Term}
+use Rattle.model.specs.Atom.{tagOf}
 use Rattle.model.specs.Field.{ReadError}
 use Rattle.model.specs.Expression.{nodesAt, expressionAt, atomAt}
 use Rattle.model.specs.declared.Comparison.{Comparison}
-use Rattle.model.specs.declared.Comparison.the-variants.{AtMost}
+use Rattle.model.specs.declared.Comparison.the-variants.{Equal, Unequal, Less, AtMost}
 use Rattle.terms.specs.Workspace.{tableBase, Same}
 use Rattle.terms.specs.Table.{place, termAt, Formed}
-use Rattle.terms.specs.Reader.{mapped, expressionOver, atomOver, variableTerm, kindOf, nodesOf, expressionOf, atomOf, unreadOf, atomTop, AtomWithin, Ready, Grown, AtomGrown, NodesRead, ExpressionRead, AtomRead}
+use Rattle.terms.specs.Reader.{mapped, expressionOver, atomOver, variableTerm, kindOf, nodesAnswer, expressionAnswer, atomAnswer, unreadOf, atomTop, AtomWithin, Ready, Grown, AtomGrown, NodesRead, ExpressionRead, AtomRead}
 use Rattle.terms.specs.declared.reader.Parse.{Parse}
 use Rattle.terms.specs.declared.reader.Parse.the-variants.{Term as Found, Missing, Fault}
 use Rattle.terms.specs.declared.reader.AtomParse.{AtomParse}
@@ -23,11 +24,11 @@ use Rattle.terms.specs.declared.reader.AtomParse.the-variants.{Atom as F
 use Rattle.terms.proofs.reader.Parse.{enum}
 use Rattle.terms.proofs.Frames.{same-refl, same-within}
 use Rattle.terms.proofs.Table.{term-same, formed-less}
-use Rattle.terms.proofs.Reading.{withoutLeft, without-over, sidesOf, rightOf, sides-over, atom-missing, atom-unknown, atom-sides}
+use Rattle.terms.proofs.Reading.{withoutLeft, without-over, twoSides, rightSide, sides-over, atom-missing, atom-unknown, atom-sides}
 use Rattle.terms.proofs.Building.{Refused, no-term, kept-before, variable-same, ready-after}
 
 -- ---- an expression
-expression-answer : (us : List ℕ) (r : Parse) → expressionOf us r ≡ withoutLeft (nodesOf us r)
+expression-answer : (us : List ℕ) (r : Parse) → expressionAnswer us r ≡ withoutLeft (nodesAnswer us r)
 unfolding _>>=_
 expression-answer us (Found a n l t) = refl
 expression-answer us Missing = refl
@@ -41,13 +42,13 @@ expression-read {ws} {us} {registers} {bytes} {end} {limit} {at} {r = r} a = rec
 }
 
 -- ---- an answer that is no term
-side-refused : (kind : Comparison) (y : ℕ → Result ReadError (Term × ℕ)) (us : List ℕ) (r : Parse) → Refused r → atomOf us (unreadOf r) ≡ sidesOf kind (expressionOf us r) y
+side-refused : (kind : Comparison) (y : ℕ → Result ReadError (Term × ℕ)) (us : List ℕ) (r : Parse) → Refused r → atomAnswer us (unreadOf r) ≡ twoSides kind (expressionAnswer us r) y
 unfolding _>>=_
 side-refused kind y us (Found a n l t) o = no-term o
 side-refused kind y us Missing o = refl
 side-refused kind y us (Fault p) o = refl
 
-right-refused : (kind : Comparison) (s : Term) (us : List ℕ) (r : Parse) → Refused r → atomOf us (unreadOf r) ≡ rightOf kind s (expressionOf us r)
+right-refused : (kind : Comparison) (s : Term) (us : List ℕ) (r : Parse) → Refused r → atomAnswer us (unreadOf r) ≡ rightSide kind s (expressionAnswer us r)
 unfolding _>>=_
 right-refused kind s us (Found a n l t) o = no-term o
 right-refused kind s us Missing o = refl
@@ -86,11 +87,11 @@ module _ {ws registers bytes : List ℕ} {end limit at top : ℕ} (y : Ready ws 
 
     module _ (u : getD bytes at 0 ≤ 3) where
       from-left : {us : List ℕ} {r : Parse} → ExpressionRead ws us registers bytes end limit (at + 1) top r
-          → sidesOf (kindOf (getD bytes at 0)) (expressionOf us r) (λ q. expressionOver (variableTerm ws registers) (expressionAt bytes end limit q)) ≡ atomOver (variableTerm ws registers) (atomAt bytes end limit at)
+          → twoSides (kindOf (getD bytes at 0)) (expressionAnswer us r) (λ q. expressionOver (variableTerm ws registers) (expressionAt bytes end limit q)) ≡ atomOver (variableTerm ws registers) (atomAt bytes end limit at)
       from-left a =
           let σ : ℕ → Term = variableTerm ws registers in
           let kind : Comparison = kindOf (getD bytes at 0) in
-          ap (λ x. sidesOf kind x (λ q. expressionOver σ (expressionAt bytes end limit q))) (a .answer)
+          ap (λ x. twoSides kind x (λ q. expressionOver σ (expressionAt bytes end limit q))) (a .answer)
           ∙ sym (sides-over σ kind (expressionAt bytes end limit (at + 1)) (λ q. expressionAt bytes end limit q))
           ∙ ap (atomOver σ) (atom-sides bytes end limit at h (omega arith))
 
@@ -101,7 +102,7 @@ module _ {ws registers bytes : List ℕ} {end limit at top : ℕ} (y : Ready ws 
       })
 
       module _ {us vs : List ℕ} {a1 n1 l1 t1 : ℕ} (p : ExpressionRead ws us registers bytes end limit (at + 1) top (Found a1 n1 l1 t1)) where
-        from-right : {r : Parse} → ExpressionRead us vs registers bytes end limit n1 t1 r → rightOf (kindOf (getD bytes at 0)) (termAt us a1) (expressionOf vs r) ≡ atomOver (variableTerm ws registers) (atomAt bytes end limit at)
+        from-right : {r : Parse} → ExpressionRead us vs registers bytes end limit n1 t1 r → rightSide (kindOf (getD bytes at 0)) (termAt us a1) (expressionAnswer vs r) ≡ atomOver (variableTerm ws registers) (atomAt bytes end limit at)
         unfolding _>>=_
         from-right q = rw (q .answer, variable-same registers top (y .held) (p .grown .kept)) (from-left p)
 
@@ -142,7 +143,15 @@ other-kind (suc (suc (suc t))) a b c = refl
 pub unread-fault : {r : Parse} {p : ℕ} → r ≡ Fault p → FaultAtom p ≡ unreadOf r
 unread-fault e = rw e
 
-pub unread-other : (r : Parse) → (tagOf (declared enum) r ≡ 0) ⊎ (tagOf (declared enum) r ≡ 1) → MissingAtom ≡ unreadOf r
+pub unread-other : (r : Parse) → (variantOf (declared enum) r ≡ 0) ⊎ (variantOf (declared enum) r ≡ 1) → MissingAtom ≡ unreadOf r
 unread-other (Found a n l t) o = refl
 unread-other Missing o = refl
 unread-other (Fault p) o = ⊎-elim (λ (e : 2 ≡ 0). absurd (omega arith)) (λ (e : 2 ≡ 1). absurd (omega arith)) o
+
+-- ---- the tag of a kind says the kind
+pub kind-tag : (kind : Comparison) → kindOf (tagOf kind) ≡ kind
+unfolding tagOf
+kind-tag Equal = refl
+kind-tag Unequal = refl
+kind-tag Less = refl
+kind-tag AtMost = refl

@@ -16,7 +16,7 @@ use Rattle.model.specs.Term.{Term, constant, variable, sum, difference}
 use Rattle.model.specs.Expression.{Form, four-byte-constant, two-byte-variable, forms, Nodes, nodesAt}
 use Rattle.terms.specs.Workspace.{tableBase, Same}
 use Rattle.terms.specs.Table.{place, termAt, Formed, Space, Put}
-use Rattle.terms.specs.Reader.{mapped, nodesOver, variableTerm, operationOf, nodesOf, topAfter, leftAfter, Within, Ready, Grown, NodeRead, NodesRead}
+use Rattle.terms.specs.Reader.{mapped, nodesOver, variableTerm, operationOf, nodesAnswer, topAfter, leftAfter, Within, Ready, Grown, NodeRead, NodesRead}
 use Rattle.terms.specs.declared.reader.Parse.{Parse}
 use Rattle.terms.specs.declared.reader.Parse.the-variants.{Term as Found, Missing, Fault}
 use Rattle.terms.proofs.reader.Parse.{enum}
@@ -109,7 +109,7 @@ by-depth : {o : Nodes} (σ : ℕ → Term) (bytes : List ℕ) (end limit left at
 by-depth σ bytes end limit left at s k zero l = absurd (omega arith)
 by-depth σ bytes end limit left at s k (suc d) l = k d (omega arith)
 
-pair-refused : (operation : Term → Term → Term) (y : (left p : ℕ) → Nodes) (us : List ℕ) (r : Parse) → Refused r → nodesOf us r ≡ pairOf operation (nodesOf us r) y
+pair-refused : (operation : Term → Term → Term) (y : (left p : ℕ) → Nodes) (us : List ℕ) (r : Parse) → Refused r → nodesAnswer us r ≡ pairOf operation (nodesAnswer us r) y
 unfolding _>>=_
 pair-refused operation y us (Found a n l t) o = no-term o
 pair-refused operation y us Missing o = refl
@@ -118,7 +118,7 @@ pair-refused operation y us (Fault p) o = refl
 abbrev secondOf : (Term → Term → Term) → Term → Nodes → Nodes
 secondOf operation s y = y >>= (λ z. value (operation s (z .0), z .1, z .2))
 
-second-refused : (operation : Term → Term → Term) (s : Term) (us : List ℕ) (r : Parse) → Refused r → nodesOf us r ≡ secondOf operation s (nodesOf us r)
+second-refused : (operation : Term → Term → Term) (s : Term) (us : List ℕ) (r : Parse) → Refused r → nodesAnswer us r ≡ secondOf operation s (nodesAnswer us r)
 unfolding _>>=_
 second-refused operation s us (Found a n l t) o = no-term o
 second-refused operation s us Missing o = refl
@@ -152,7 +152,7 @@ module _ {ws registers bytes : List ℕ} {end limit at left top : ℕ} (y : Read
       module _ (z : getD bytes at 0 ≢ 0) (o : getD bytes at 0 ≢ 1) (u : getD bytes at 0 < 4) where
         -- what is read, once the first operand is
         from-first : (d : ℕ) → left - 1 ≤ d → {us : List ℕ} {r : Parse} → NodesRead ws us registers bytes end limit (at + 1) (left - 1) top r
-            → pairOf (operationOf (getD bytes at 0)) (nodesOf us r) (λ l q. nodesOver (variableTerm ws registers) (nodesAt bytes end limit d l q)) ≡ nodesOver (variableTerm ws registers) (nodesAt bytes end limit (suc d) left at)
+            → pairOf (operationOf (getD bytes at 0)) (nodesAnswer us r) (λ l q. nodesOver (variableTerm ws registers) (nodesAt bytes end limit d l q)) ≡ nodesOver (variableTerm ws registers) (nodesAt bytes end limit (suc d) left at)
         from-first d l a =
             let σ : ℕ → Term = variableTerm ws registers in
             let tag : ℕ = getD bytes at 0 in
@@ -169,7 +169,7 @@ module _ {ws registers bytes : List ℕ} {end limit at left top : ℕ} (y : Read
 
         module _ {us vs : List ℕ} {a1 n1 l1 t1 : ℕ} {r : Parse} (p : NodesRead ws us registers bytes end limit (at + 1) (left - 1) top (Found a1 n1 l1 t1)) (q : NodesRead us vs registers bytes end limit n1 l1 t1 r) where
           -- what is read, once the second operand is: its variables have the terms from before the first
-          from-second : (d : ℕ) → left - 1 ≤ d → secondOf (operationOf (getD bytes at 0)) (termAt us a1) (nodesOf vs r) ≡ nodesOver (variableTerm ws registers) (nodesAt bytes end limit (suc d) left at)
+          from-second : (d : ℕ) → left - 1 ≤ d → secondOf (operationOf (getD bytes at 0)) (termAt us a1) (nodesAnswer vs r) ≡ nodesOver (variableTerm ws registers) (nodesAt bytes end limit (suc d) left at)
           unfolding _>>=_
           from-second d l = rw (q .answer d (omega (arith, p .grown .few, p .grown .grows)), variable-same registers top (y .held) (p .grown .kept)) (from-first d l p)
 

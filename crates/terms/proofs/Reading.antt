@@ -137,22 +137,22 @@ comparison-unknown (suc (suc (suc zero))) h = absurd (omega arith)
 comparison-unknown (suc (suc (suc (suc t)))) h = refl
 
 -- two expressions as the sides of an atom
-abbrev pub sidesOf : Comparison → Result ReadError (Term × ℕ) → (ℕ → Result ReadError (Term × ℕ)) → Result ReadError (Atom × ℕ)
-sidesOf kind x y = do
+abbrev pub twoSides : Comparison → Result ReadError (Term × ℕ) → (ℕ → Result ReadError (Term × ℕ)) → Result ReadError (Atom × ℕ)
+twoSides kind x y = do
   (s, q) ← x
   (t, r) ← y q
   value (record { kind = kind; left = s; right = t }, r)
 
-abbrev pub rightOf : Comparison → Term → Result ReadError (Term × ℕ) → Result ReadError (Atom × ℕ)
-rightOf kind s y = y >>= (λ z. value (record { kind = kind; left = s; right = z .0 }, z .1))
+abbrev pub rightSide : Comparison → Term → Result ReadError (Term × ℕ) → Result ReadError (Atom × ℕ)
+rightSide kind s y = y >>= (λ z. value (record { kind = kind; left = s; right = z .0 }, z .1))
 
 module _ (σ : ℕ → Term) (kind : Comparison) where
-  pub right-over : (s : Term) (y : Result ReadError (Term × ℕ)) → atomOver σ (rightOf kind s y) ≡ rightOf kind (over σ s) (expressionOver σ y)
+  pub right-over : (s : Term) (y : Result ReadError (Term × ℕ)) → atomOver σ (rightSide kind s y) ≡ rightSide kind (over σ s) (expressionOver σ y)
   unfolding _>>=_ mapped
   right-over s (stop e) = refl
   right-over s (value z) = refl
 
-  pub sides-over : (x : Result ReadError (Term × ℕ)) (y : ℕ → Result ReadError (Term × ℕ)) → atomOver σ (sidesOf kind x y) ≡ sidesOf kind (expressionOver σ x) (λ q. expressionOver σ (y q))
+  pub sides-over : (x : Result ReadError (Term × ℕ)) (y : ℕ → Result ReadError (Term × ℕ)) → atomOver σ (twoSides kind x y) ≡ twoSides kind (expressionOver σ x) (λ q. expressionOver σ (y q))
   unfolding _>>=_ mapped
   sides-over (stop e) y = refl
   sides-over (value z) y = right-over (z .0) (y (z .1))
@@ -167,6 +167,6 @@ module _ (bytes : List ℕ) (end limit at : ℕ) where
     unfolding atomAt byteAt _>>=_ check found
     atom-unknown u = rw (le-leb (at + 1) end (omega arith), comparison-unknown (getD bytes at 0) u)
 
-    pub atom-sides : getD bytes at 0 < 4 → sidesOf (kindOf (getD bytes at 0)) (expressionAt bytes end limit (at + 1)) (λ q. expressionAt bytes end limit q) ≡ atomAt bytes end limit at
+    pub atom-sides : getD bytes at 0 < 4 → twoSides (kindOf (getD bytes at 0)) (expressionAt bytes end limit (at + 1)) (λ q. expressionAt bytes end limit q) ≡ atomAt bytes end limit at
     unfolding atomAt byteAt _>>=_ check found
     atom-sides u = rw (le-leb (at + 1) end (omega arith), comparison-kind (getD bytes at 0) u)

@@ -19,7 +19,7 @@ use Rattle.terms.specs.Table.{place}
 use Rattle.terms.specs.Reader.{over, mapped, nodesOver, expressionOver, atomOver, variableTerm, operationOf, RegisterTerms}
 use Rattle.terms.proofs.Frames.{same-within}
 use Rattle.terms.proofs.Table.{term-same}
-use Rattle.terms.proofs.Reading.{pairOf, operation-keeps, pair-over, withoutLeft, without-over, sidesOf, sides-over}
+use Rattle.terms.proofs.Reading.{pairOf, operation-keeps, pair-over, withoutLeft, without-over, twoSides, sides-over}
 use Rattle.terms.proofs.Building.{variable-register, variable-new}
 
 -- ---- terms
@@ -81,7 +81,7 @@ module _ (bytes : List ℕ) (end limit : ℕ) (σ τ : ℕ → Term) (agree : (v
   atom-agree p =
       bind-agree _ _ (byteAt bytes end p) _ (λ tag. bind-agree _ _ (found (getElem? comparisons tag) (fault p)) _ (λ kind.
       sides-over σ kind (expressionAt bytes end limit (p + 1)) (λ q. expressionAt bytes end limit q)
-      ∙ ap₂ (λ x y. sidesOf kind x y) (expression-agree (p + 1)) (fun-ext (λ q. expression-agree q))
+      ∙ ap₂ (λ x y. twoSides kind x y) (expression-agree (p + 1)) (fun-ext (λ q. expression-agree q))
       ∙ sym (sides-over τ kind (expressionAt bytes end limit (p + 1)) (λ q. expressionAt bytes end limit q))))
 
 -- ---- registers whose terms are known

@@ -70,20 +70,20 @@ abbrev pub atomNodes : ℕ
 atomNodes = mostNodes + mostNodes
 
 -- ---- what an answer says in the words us
-abbrev pub nodesOf : List ℕ → Parse → Nodes
-nodesOf us (Found number next left top) = value (termAt us number, next, left)
-nodesOf us Missing = stop missing
-nodesOf us (Fault p) = stop (fault p)
+abbrev pub nodesAnswer : List ℕ → Parse → Nodes
+nodesAnswer us (Found number next left top) = value (termAt us number, next, left)
+nodesAnswer us Missing = stop missing
+nodesAnswer us (Fault p) = stop (fault p)
 
-abbrev pub expressionOf : List ℕ → Parse → Result ReadError (Term × ℕ)
-expressionOf us (Found number next left top) = value (termAt us number, next)
-expressionOf us Missing = stop missing
-expressionOf us (Fault p) = stop (fault p)
+abbrev pub expressionAnswer : List ℕ → Parse → Result ReadError (Term × ℕ)
+expressionAnswer us (Found number next left top) = value (termAt us number, next)
+expressionAnswer us Missing = stop missing
+expressionAnswer us (Fault p) = stop (fault p)
 
-abbrev pub atomOf : List ℕ → AtomParse → Result ReadError (Atom × ℕ)
-atomOf us (FoundAtom kind left right next top) = value (record { kind = kind; left = termAt us left; right = termAt us right }, next)
-atomOf us MissingAtom = stop missing
-atomOf us (FaultAtom p) = stop (fault p)
+abbrev pub atomAnswer : List ℕ → AtomParse → Result ReadError (Atom × ℕ)
+atomAnswer us (FoundAtom kind left right next top) = value (record { kind = kind; left = termAt us left; right = termAt us right }, next)
+atomAnswer us MissingAtom = stop missing
+atomAnswer us (FaultAtom p) = stop (fault p)
 
 -- an expression that cannot be read, as the answer of an atom's reader
 abbrev pub unreadOf : Parse → AtomParse
@@ -142,18 +142,18 @@ pub record AtomGrown (ws us : List ℕ) (end top : ℕ) (r : AtomParse) : Type 0
 module _ (ws us registers bytes : List ℕ) (end limit at : ℕ) where
   -- what stands after a tag, by its form, whatever reads the operands
   pub record NodeRead (left top : ℕ) (form : Form) (r : Parse) : Type 0 where
-    pub answer : (operand : (left p : ℕ) → Nodes) → nodesOf us r ≡ nodesOver (variableTerm ws registers) (nodeOf bytes end limit operand form left at)
+    pub answer : (operand : (left p : ℕ) → Nodes) → nodesAnswer us r ≡ nodesOver (variableTerm ws registers) (nodeOf bytes end limit operand form left at)
     pub grown : Grown ws us end top left r
 
   -- an expression of at most `left` nodes
   pub record NodesRead (left top : ℕ) (r : Parse) : Type 0 where
-    pub answer : (depth : ℕ) → left ≤ depth → nodesOf us r ≡ nodesOver (variableTerm ws registers) (nodesAt bytes end limit depth left at)
+    pub answer : (depth : ℕ) → left ≤ depth → nodesAnswer us r ≡ nodesOver (variableTerm ws registers) (nodesAt bytes end limit depth left at)
     pub grown : Grown ws us end top left r
 
   pub record ExpressionRead (top : ℕ) (r : Parse) : Type 0 where
-    pub answer : expressionOf us r ≡ expressionOver (variableTerm ws registers) (expressionAt bytes end limit at)
+    pub answer : expressionAnswer us r ≡ expressionOver (variableTerm ws registers) (expressionAt bytes end limit at)
     pub grown : Grown ws us end top mostNodes r
 
   pub record AtomRead (top : ℕ) (r : AtomParse) : Type 0 where
-    pub answer : atomOf us r ≡ atomOver (variableTerm ws registers) (atomAt bytes end limit at)
+    pub answer : atomAnswer us r ≡ atomOver (variableTerm ws registers) (atomAt bytes end limit at)
     pub grown : AtomGrown ws us end top r

@@ -3,6 +3,7 @@ use model::Comparison;
 ghost use mathlib.Core.Path.{_≡_};
 ghost use Prim.Native.Nat.{_+_, _≤_, _<_};
 ghost use lib.ListN.{length};
+ghost use Rattle.model.specs.Atom.{tagOf};
 ghost use Rattle.model.specs.Expression.{mostNodes, four-byte-constant, two-byte-variable};
 ghost use Rattle.terms.specs.Workspace.{mostVariables};
 ghost use Rattle.terms.specs.Table.{termAt, Formed, Space, Put};
@@ -200,6 +201,18 @@ pub fn comparison(tag: u32) -> Comparison
         1 => Comparison::Unequal,
         2 => Comparison::Less,
         _ => Comparison::AtMost,
+    }
+}
+
+// The tag of a comparison.
+pub fn tag(kind: Comparison) -> u32
+    ensures { λ r. ⌜ r ≡ tagOf kind ⌝ }
+{
+    match kind {
+        Comparison::Equal => 0,
+        Comparison::Unequal => 1,
+        Comparison::Less => 2,
+        Comparison::AtMost => 3,
     }
 }
 

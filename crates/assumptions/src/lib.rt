@@ -1,0 +1,46 @@
+// The assumptions of a path, kept in the lent workspace below the term table.
+use model::Comparison;
+ghost use mathlib.Core.Path.{_≡_};
+ghost use Prim.Native.Nat.{_≤_, _<_};
+ghost use lib.ListN.{length};
+ghost use Rattle.terms.specs.Workspace.{workspaceWords, mostAssumptions, mostTableNodes};
+ghost use Rattle.assumptions.specs.Area.{entryOf, atomIn, Listed, Pushed};
+
+// An assumption: a comparison of two nodes of the term table.
+pub struct Assumption {
+    pub kind: Comparison,
+    pub left: usize,
+    pub right: usize,
+}
+
+// Where the assumptions begin.
+const ASSUMPTIONS: usize = 1024;
+
+// Puts one more assumption after the first count.
+pub fn push(ws: &mut [u32], count: usize, top: usize, kind: Comparison, left: usize, right: usize)
+    requires { ⌜ (count < mostAssumptions) × (top ≤ mostTableNodes) × (workspaceWords ≤ length (now ws)) ⌝ }
+    requires { ⌜ Listed (now ws) count top ⌝ }
+    requires { ⌜ (left < top) × (right < top) ⌝ }
+    ensures { λ _. ⌜ Pushed (now (ws .entry)) (now (ws .exit)) count top (atomIn (now (ws .entry)) (record { kind = kind; left = left; right = right })) ⌝ }
+{
+    terms::store(
+        ws,
+        ASSUMPTIONS + 3 * count,
+        terms::reader::tag(kind),
+        left as u32,
+        right as u32,
+    );
+}
+
+// Assumption k.
+pub fn get(ws: &[u32], k: usize) -> Assumption
+    requires { ⌜ (k < mostAssumptions) × (workspaceWords ≤ length (now ws)) ⌝ }
+    ensures { λ r. ⌜ r ≡ entryOf (now (ws .entry)) k ⌝ }
+{
+    let at = ASSUMPTIONS + 3 * k;
+    Assumption {
+        kind: terms::reader::comparison(ws[at]),
+        left: fields::wide(ws[at + 1]),
+        right: fields::wide(ws[at + 2]),
+    }
+}
