@@ -143,7 +143,8 @@ fn read(
         0 => read_constant(bytes, ws, end, limit, registers, at, left, top),
         1 => read_variable(bytes, ws, end, limit, registers, at, left, top),
         2 | 3 => {
-            let first = read(bytes, ws, end, limit, registers, at + 1, left - 1, top);
+            let start = at + 1;
+            let first = read(bytes, ws, end, limit, registers, start, left - 1, top);
             let Parse::Term {
                 number: a,
                 next: middle,
@@ -240,14 +241,15 @@ pub fn atom(
     requires { ⌜ Ready (now ws) registers top atomNodes ⌝ }
     ensures { λ r. ⌜ AtomRead (now (ws .entry)) (now (ws .exit)) registers (now (bytes .entry)) end limit at top r ⌝ }
 {
-    if end <= at {
+    if at >= end {
         return AtomParse::Missing;
     }
     let tag = bytes[at];
     if 3 < tag {
         return AtomParse::Fault(at);
     }
-    let first = expression(bytes, ws, end, limit, registers, at + 1, top);
+    let start = at + 1;
+    let first = expression(bytes, ws, end, limit, registers, start, top);
     let Parse::Term {
         number: left,
         next: middle,

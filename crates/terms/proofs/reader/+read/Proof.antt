@@ -42,8 +42,8 @@ module _ (t : ℕ) where
   read-variable-requires : lts.Need-read-variable-requires (R t) (given t) it.Post
   read-variable-requires c κs = ((c .before .before .before .before .if1 .left, c .before .before .before .before .before .before .before .pre .1 .0 .0, omega (arith, c .before .before .before .if2 .left)), (c .before .before .before .before .before .before .before .pre .1 .0 .1, c .before .before .before .before .before .before .before .pre .1 .1))
 
-  add-read : lts.Need-add-read (R t) (given t) it.Post
-  add-read c = search needs
+  add-start : lts.Need-add-start (R t) (given t) it.Post
+  add-start c = search needs
 
   sub-read : lts.Need-sub-read (R t) (given t) it.Post
   sub-read c = search needs
@@ -75,8 +75,8 @@ module _ (t : ℕ) where
   put-pair-requires : lts.Need-put-pair-requires (R t) (given t) it.Post
   put-pair-requires c κs = ((told (c .before .before .before .before .before .before .read2 .ensures) (c .before .before .second .given .1)) .grown .formed, (pair-space (c .before .before .before .before .before .before .before .before .before .before .before .before .before .before .before .before .before .before .before .before .before .before .pre .1 .1) (c .before .before .before .before .before .before .before .before .before .before .before .before .before .before .before .before .before .before .if2 .left) ((told (c .before .before .before .before .before .before .before .before .before .before .before .before .before .read .ensures) (c .before .before .before .before .before .before .before .before .before .first .given .1)) .grown) (c .before .before .before .before .before .before .before .before .before .before .before .before .before .read .kept .1 .0) ((told (c .before .before .before .before .before .before .read2 .ensures) (c .before .before .second .given .1)) .grown) (c .before .before .before .before .before .before .read2 .kept .1 .0), (pair-parts (c .before .before .before .before .before .before .before .before .before .before .before .before .before .before .before .before .before .before .before .before .before .before .pre .1 .1) (c .before .before .before .before .before .before .before .before .before .before .before .before .before .before .before .before .before .before .if2 .left) ((told (c .before .before .before .before .before .before .before .before .before .before .before .before .before .read .ensures) (c .before .before .before .before .before .before .before .before .before .first .given .1)) .grown) (c .before .before .before .before .before .before .before .before .before .before .before .before .before .read .kept .1 .0) ((told (c .before .before .before .before .before .before .read2 .ensures) (c .before .before .second .given .1)) .grown) (c .before .before .before .before .before .before .read2 .kept .1 .0), (omega (arith, c .before .before .before .before .before .before .before .before .before .before .before .before .before .before .before .before .match .rest .0 .1, c .before .before .before .before .before .before .before .before .before .before .before .before .before .before .before .before .match .rest .1), c .before .before .before .before .before .before .before .before .before .before .before .before .before .before .before .if3 .taken))))
 
-  add-t31 : lts.Need-add-t31 (R t) (given t) it.Post
-  add-t31 c = omega (arith, pair-space (c .before .before .before .before .before .before .before .before .before .before .before .before .before .before .before .before .before .before .before .before .before .before .before .before .before .pre .1 .1) (c .before .before .before .before .before .before .before .before .before .before .before .before .before .before .before .before .before .before .before .before .before .if2 .left) ((told (c .before .before .before .before .before .before .before .before .before .before .before .before .before .before .before .before .read .ensures) (c .before .before .before .before .before .before .before .before .before .before .before .before .first .given .1)) .grown) (c .before .before .before .before .before .before .before .before .before .before .before .before .before .before .before .before .read .kept .1 .0) ((told (c .before .before .before .before .before .before .before .before .before .read2 .ensures) (c .before .before .before .before .before .second .given .1)) .grown) (c .before .before .before .before .before .before .before .before .before .read2 .kept .1 .0) .fits)
+  add-t32 : lts.Need-add-t32 (R t) (given t) it.Post
+  add-t32 c = omega (arith, pair-space (c .before .before .before .before .before .before .before .before .before .before .before .before .before .before .before .before .before .before .before .before .before .before .before .before .before .pre .1 .1) (c .before .before .before .before .before .before .before .before .before .before .before .before .before .before .before .before .before .before .before .before .before .if2 .left) ((told (c .before .before .before .before .before .before .before .before .before .before .before .before .before .before .before .before .read .ensures) (c .before .before .before .before .before .before .before .before .before .before .before .before .first .given .1)) .grown) (c .before .before .before .before .before .before .before .before .before .before .before .before .before .before .before .before .read .kept .1 .0) ((told (c .before .before .before .before .before .before .before .before .before .read2 .ensures) (c .before .before .before .before .before .second .given .1)) .grown) (c .before .before .before .before .before .before .before .before .before .read2 .kept .1 .0) .fits)
 
   same-length-3 : lts.Need-same-length-3 (R t) (given t) it.Post
   same-length-3 c = search needs
@@ -100,4 +100,4 @@ module _ (t : ℕ) where
   returns-8 c = read-unknown (c .before .before .before .before .before .before .before .pre .1 .1) (c .before .before .before .before .if1 .left) (c .before .before .before .if2 .left) (c .if3 .left)
 
 pub +read-spec : {M : Type 1} → statement M
-+read-spec = close μ (λ t. lts.spec (R t) (given t) it.Post (returns t) (returns-2 t) (shared-slice-read-tag t) (read-constant-requires t) (read-variable-requires t) (add-read t) (sub-read t) (read-requires t) (enum-known-first t) (same-length t) (returns-3 t) (read-requires-2 t) (enum-known-second t) (same-length-2 t) (returns-4 t) (put-pair-requires t) (add-t31 t) (same-length-3 t) (returns-5 t) (same-length-4 t) (returns-6 t) (same-length-5 t) (returns-7 t) (returns-8 t))
++read-spec = close μ (λ t. lts.spec (R t) (given t) it.Post (returns t) (returns-2 t) (shared-slice-read-tag t) (read-constant-requires t) (read-variable-requires t) (add-start t) (sub-read t) (read-requires t) (enum-known-first t) (same-length t) (returns-3 t) (read-requires-2 t) (enum-known-second t) (same-length-2 t) (returns-4 t) (put-pair-requires t) (add-t32 t) (same-length-3 t) (returns-5 t) (same-length-4 t) (returns-6 t) (same-length-5 t) (returns-7 t) (returns-8 t))

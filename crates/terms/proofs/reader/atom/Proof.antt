@@ -1,7 +1,7 @@
 use Rattle.terms.proofs.Atoms.{told-expression, atom-read-missing, atom-read-unknown, atom-left-refused, atom-right-refused, atom-read-found, ready-right}
 use Rattle.terms.proofs.Building.{ready-fewer}
-use native.Mathlib.Omega.{arith}
 use borrow.Author.Needs.{needs}
+use native.Mathlib.Omega.{arith}
 use Rattle.terms.proofs.reader.atom.Statement.{statement}
 use Rattle.terms.proofs.reader.atom.Tie as tie
 
@@ -14,8 +14,8 @@ shared-slice-read-tag c = search needs
 returns-2 : tie.Need-returns-2
 returns-2 c = atom-read-unknown (c .before .before .before .before .before .pre .1) (c .before .before .if1 .left) (c .if2 .taken)
 
-add-expression : tie.Need-add-expression
-add-expression c = search needs
+add-start : tie.Need-add-start
+add-start c = search needs
 
 expression-requires : tie.Need-expression-requires
 expression-requires c κs = (c .before .before .before .before .before .before .pre .0, ready-fewer 31 (omega arith) (c .before .before .before .before .before .before .pre .1))
@@ -66,7 +66,7 @@ atom-spec =
     returns
     shared-slice-read-tag
     returns-2
-    add-expression
+    add-start
     expression-requires
     enum-known-first
     unread-requires

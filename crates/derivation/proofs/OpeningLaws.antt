@@ -1,0 +1,299 @@
+-- Laws of reading a rule: one for each way out. Assumes nothing.
+use mathlib.Core.Path.{_≡_, refl, sym, ap, subst, _∙_}
+use mathlib.Core.Logic.{⊎-elim, _⊎_}
+use mathlib.Core.Bool.{Bool, true, false, _&&_, _||_}
+use mathlib.Core.Option.{Option, none, some}
+use mathlib.Core.List.{List, [], _∷_}
+use Prim.Native.Nat.{ℕ, zero, suc, _+_, _-_, _<_, _≤_}
+use native.Mathlib.Nat.{eq-or-lt-of-le, le-of-suc-le-suc}
+use native.Mathlib.Omega.{arith}
+use native.Mathlib.Decide.{decLt}
+use lib.Dec.{eqb, leb, lit<}
+use lib.ListN.{length, getD, getElem?}
+use borrow.Author.Tests.{eq-eqb, ne-eqb, le-leb, lt-leb}
+use denote.Enum.Declared.{tagOf as variant, declared}
+use Rattle.model.specs.Result.{Result, stop, value, _>>=_, check, found, stopAs}
+use Rattle.model.specs.Word.{le16}
+use Rattle.model.specs.Term.{Term}
+use Rattle.model.specs.Field.{ReadError, missing, fault, byteAt, halfAt}
+use Rattle.model.specs.Expression.{expressionAt, mostNodes}
+use Rattle.model.specs.Goals.{registerVariables}
+use Rattle.model.specs.Rule.{Rule, Format, plain, with-index, with-term, with-region, rules}
+use Rattle.model.specs.Derivation.{proofRefusal, proofField, ruleAt}
+use Rattle.model.specs.declared.Refusal.{Refusal}
+use Rattle.model.specs.declared.Refusal.the-variants.{ProofExhausted, UnfitRule, BadArgument}
+use Rattle.model.proofs.Lists.{Every, empty, _&_}
+use Rattle.terms.specs.Workspace.{Same}
+use Rattle.terms.specs.Table.{place, termAt, Formed}
+use Rattle.terms.specs.Reader.{expressionAnswer, Ready, Grown, ExpressionRead}
+use Rattle.terms.specs.declared.reader.Parse.{Parse}
+use Rattle.terms.specs.declared.reader.Parse.the-variants.{Term as Found, Missing, Fault}
+use Rattle.terms.proofs.reader.Parse.{enum as parse-enum}
+use Rattle.terms.proofs.Table.{formed-less}
+use Rattle.terms.proofs.Frames.{same-refl}
+use Rattle.terms.proofs.Building.{Refused as NoTerm, no-term}
+use Rattle.terms.proofs.Substitution.{expression-self}
+use Rattle.derivation.specs.Opening.{formOf, ruleIn, ruleOf, formOfNumber, refusalOf, openedOf, Begun, registerNodes, Opening, topOf, Opens}
+use Rattle.derivation.specs.declared.opening.Form.{Form}
+use Rattle.derivation.specs.declared.opening.Form.the-variants.{Plain, Index, Argument, Region, Unknown}
+use Rattle.derivation.specs.declared.opening.Opened.{Opened}
+use Rattle.derivation.specs.declared.opening.Opened.the-variants.{Rule as OpenRule, Refused}
+use Rattle.derivation.proofs.opening.Form.{enum}
+use Rattle.derivation.proofs.PartLaws.{neither}
+use Rattle.derivation.proofs.RuleLaws.{stops, goes-on, not-found, is-found}
+
+-- ---- what stands after a rule byte
+downFrom : ℕ → List ℕ
+downFrom zero = []
+downFrom (suc n) = n ∷ downFrom n
+
+-- what holds of each number that is listed holds of each below
+each-below : {P : ℕ → Type 0} (n : ℕ) → Every P (downFrom n) → (k : ℕ) → k < n → P k
+unfolding downFrom
+each-below zero h k l = absurd (omega arith)
+each-below {P} (suc n) (p & h) k l = ⊎-elim (λ e. subst P (sym e) p) (λ m. each-below n h k m) (eq-or-lt-of-le (le-of-suc-le-suc l))
+
+past-end : {A : Type 0} (l : List A) (n : ℕ) → length l ≤ n → getElem? l n ≡ none
+past-end [] n h = refl
+past-end (x ∷ l) zero h = absurd (omega arith)
+past-end (x ∷ l) (suc n) h = past-end l n (omega arith)
+
+abbrev Formats : ℕ → Type 0
+Formats n = formOfNumber n ≡ formOf (getElem? rules n)
+
+formats : Every Formats (downFrom 25)
+unfolding downFrom formOfNumber
+formats = search (_&_, empty, refl) depth 60
+
+format-is : (n : ℕ) → Formats n
+unfolding formOfNumber
+format-is n = go (decLt n 25)
+  where
+    go : Dec (n < 25) → Formats n
+    go (yes h) = each-below 25 formats n h
+    go (no h) =
+        rw (past-end rules n (omega arith), ne-eqb n 0 (omega arith), le-leb 5 n (omega arith), lt-leb n 8 (omega arith), ne-eqb n 24 (omega arith), le-leb 22 n (omega arith), lt-leb n 23 (omega arith), lt-leb n 24 (omega arith), formOfNumber)
+
+module _ {n : ℕ} where
+  pub form-index-is : n ≡ 0 → Index ≡ formOf (getElem? rules n)
+  form-index-is e = ap (λ k. formOf (getElem? rules k)) (sym e)
+
+  module _ (a : n ≡ 0 → ⊥) where
+    pub form-argument-is : (leb 5 n && leb n 8 || eqb n 24) ≡ true → Argument ≡ formOf (getElem? rules n)
+    unfolding formOfNumber
+    form-argument-is h = rw (ne-eqb n 0 a, h, formOfNumber) at (format-is n)
+
+    module _ (b : (leb 5 n && leb n 8 || eqb n 24) ≡ false) where
+      pub form-region-is : (leb 22 n && leb n 23) ≡ true → Region ≡ formOf (getElem? rules n)
+      unfolding formOfNumber
+      form-region-is h = rw (ne-eqb n 0 a, b, h, formOfNumber) at (format-is n)
+
+      module _ (c : (leb 22 n && leb n 23) ≡ false) where
+        pub form-plain-is : n ≤ 24 → Plain ≡ formOf (getElem? rules n)
+        unfolding formOfNumber
+        form-plain-is h = rw (ne-eqb n 0 a, b, c, le-leb n 24 h, formOfNumber) at (format-is n)
+
+        pub form-unknown-is : 24 < n → Unknown ≡ formOf (getElem? rules n)
+        unfolding formOfNumber
+        form-unknown-is h = rw (ne-eqb n 0 a, b, c, lt-leb n 24 h, formOfNumber) at (format-is n)
+
+-- ---- the row of a form
+clash : {A : Type 0} {f g : Form} → f ≡ g → (variant (declared enum) f ≡ variant (declared enum) g → ⊥) → A
+clash e k = absurd (k (ap (variant (declared enum)) e))
+
+row-plain : (o : Option Format) → Plain ≡ formOf o → (rule : Rule) × (o ≡ some (plain rule))
+row-plain none e = clash e (omega arith)
+row-plain (some (plain rule)) e = (rule, refl)
+row-plain (some (with-index rule)) e = clash e (omega arith)
+row-plain (some (with-term rule)) e = clash e (omega arith)
+row-plain (some (with-region rule)) e = clash e (omega arith)
+
+row-index : (o : Option Format) → Index ≡ formOf o → (rule : ℕ → Rule) × (o ≡ some (with-index rule))
+row-index none e = clash e (omega arith)
+row-index (some (plain rule)) e = clash e (omega arith)
+row-index (some (with-index rule)) e = (rule, refl)
+row-index (some (with-term rule)) e = clash e (omega arith)
+row-index (some (with-region rule)) e = clash e (omega arith)
+
+row-argument : (o : Option Format) → Argument ≡ formOf o → (rule : Term → Rule) × (o ≡ some (with-term rule))
+row-argument none e = clash e (omega arith)
+row-argument (some (plain rule)) e = clash e (omega arith)
+row-argument (some (with-index rule)) e = clash e (omega arith)
+row-argument (some (with-term rule)) e = (rule, refl)
+row-argument (some (with-region rule)) e = clash e (omega arith)
+
+row-region : (o : Option Format) → Region ≡ formOf o → (rule : ℕ → Rule) × (o ≡ some (with-region rule))
+row-region none e = clash e (omega arith)
+row-region (some (plain rule)) e = clash e (omega arith)
+row-region (some (with-index rule)) e = clash e (omega arith)
+row-region (some (with-term rule)) e = clash e (omega arith)
+row-region (some (with-region rule)) e = (rule, refl)
+
+row-unknown : (o : Option Format) → Unknown ≡ formOf o → o ≡ none
+row-unknown none e = refl
+row-unknown (some (plain rule)) e = clash e (omega arith)
+row-unknown (some (with-index rule)) e = clash e (omega arith)
+row-unknown (some (with-term rule)) e = clash e (omega arith)
+row-unknown (some (with-region rule)) e = clash e (omega arith)
+
+-- a row that is there
+known-row : (n : ℕ) {f : Form} → f ≡ formOf (getElem? rules n) → (f ≡ Unknown → ⊥) → n < length rules
+known-row n e k = go (decLt n (length rules))
+  where
+    go : Dec (n < length rules) → n < length rules
+    go (yes h) = h
+    go (no h) = absurd (k (e ∙ ap formOf (past-end rules n (omega arith))))
+
+-- ---- fields of the proof
+module _ (bytes : List ℕ) where
+  byte-missing : (p : ℕ) → length bytes ≤ p → stop (ProofExhausted (length bytes)) ≡ proofField bytes (byteAt bytes (length bytes) p)
+  unfolding byteAt check _>>=_ stopAs proofRefusal
+  byte-missing p h = rw (lt-leb (p + 1) (length bytes) (omega arith), byteAt)
+
+  byte-there : (p : ℕ) {n : ℕ} → p < length bytes → n ≡ getD bytes p 0 → value n ≡ proofField bytes (byteAt bytes (length bytes) p)
+  unfolding byteAt check _>>=_ stopAs
+  byte-there p h e = rw (le-leb (p + 1) (length bytes) (omega arith), byteAt) (ap value e)
+
+  half-missing : (p : ℕ) → length bytes < p + 2 → stop (ProofExhausted (length bytes)) ≡ proofField bytes (halfAt bytes (length bytes) p)
+  unfolding halfAt check _>>=_ stopAs proofRefusal
+  half-missing p h = rw (lt-leb (p + 2) (length bytes) h, halfAt)
+
+  half-there : (p : ℕ) {n : ℕ} → p + 2 ≤ length bytes → n ≡ le16 bytes p → value n ≡ proofField bytes (halfAt bytes (length bytes) p)
+  unfolding halfAt check _>>=_ stopAs
+  half-there p h e = rw (le-leb (p + 2) (length bytes) h, halfAt) (ap value e)
+
+-- ---- the answers, a rule byte being there
+module _ {bytes : List ℕ} {number at : ℕ} (us : List ℕ) (variables : ℕ) where
+  opened-plain : Begun bytes number at Plain → (v : ℕ) → value (ruleOf us number v, at + 1) ≡ ruleAt bytes variables at
+  unfolding ruleAt ruleOf
+  opened-plain b v =
+      let (rule, e) = row-plain (getElem? rules number) (b .kind) in
+      goes-on _ (byte-there bytes at (b .there) (b .is)) (goes-on _ (is-found (UnfitRule at) e) (ap (λ o. value (ruleIn us v o, at + 1)) e))
+
+  opened-unknown : Begun bytes number at Unknown → stop (UnfitRule at) ≡ ruleAt bytes variables at
+  unfolding ruleAt
+  opened-unknown b = goes-on _ (byte-there bytes at (b .there) (b .is)) (stops _ (not-found (UnfitRule at) (row-unknown (getElem? rules number) (b .kind))))
+
+  module _ (b : Begun bytes number at Index) where
+    opened-index-missing : length bytes - at < 3 → stop (ProofExhausted (length bytes)) ≡ ruleAt bytes variables at
+    unfolding ruleAt
+    opened-index-missing h =
+        let (rule, e) = row-index (getElem? rules number) (b .kind) in
+        goes-on _ (byte-there bytes at (b .there) (b .is)) (goes-on _ (is-found (UnfitRule at) e) (stops _ (half-missing bytes (at + 1) (omega (arith, b .there)))))
+
+    opened-index : {v : ℕ} → 3 ≤ length bytes - at → v ≡ le16 bytes (at + 1) → value (ruleOf us number v, at + 3) ≡ ruleAt bytes variables at
+    unfolding ruleAt ruleOf
+    opened-index {v} h k =
+        let (rule, e) = row-index (getElem? rules number) (b .kind) in
+        goes-on _ (byte-there bytes at (b .there) (b .is))
+        (goes-on _ (is-found (UnfitRule at) e) (goes-on _ (half-there bytes (at + 1) (omega (arith, b .there)) k) (ap (λ o. value (ruleIn us v o, at + 3)) e)))
+
+  module _ (b : Begun bytes number at Region) where
+    opened-region-missing : length bytes - at < 2 → stop (ProofExhausted (length bytes)) ≡ ruleAt bytes variables at
+    unfolding ruleAt
+    opened-region-missing h =
+        let (rule, e) = row-region (getElem? rules number) (b .kind) in
+        goes-on _ (byte-there bytes at (b .there) (b .is)) (goes-on _ (is-found (UnfitRule at) e) (stops _ (byte-missing bytes (at + 1) (omega (arith, b .there)))))
+
+    opened-region : {v : ℕ} → 2 ≤ length bytes - at → v ≡ getD bytes (at + 1) 0 → value (ruleOf us number v, at + 2) ≡ ruleAt bytes variables at
+    unfolding ruleAt ruleOf
+    opened-region {v} h k =
+        let (rule, e) = row-region (getElem? rules number) (b .kind) in
+        goes-on _ (byte-there bytes at (b .there) (b .is))
+        (goes-on _ (is-found (UnfitRule at) e) (goes-on _ (byte-there bytes (at + 1) (omega (arith, b .there)) k) (ap (λ o. value (ruleIn us v o, at + 2)) e)))
+
+  module _ (b : Begun bytes number at Argument) where
+    opened-argument : (m : ℕ) {next : ℕ} → value (termAt us m, next) ≡ expressionAt bytes (length bytes) variables (at + 1) → value (ruleOf us number m, next) ≡ ruleAt bytes variables at
+    unfolding ruleAt ruleOf stopAs
+    opened-argument m {next} h =
+        let (rule, e) = row-argument (getElem? rules number) (b .kind) in
+        goes-on _ (byte-there bytes at (b .there) (b .is))
+        (goes-on _ (is-found (UnfitRule at) e) (goes-on _ (ap (proofField bytes) h) (ap (λ o. value (ruleIn us m o, next)) e)))
+
+    opened-no-argument : (r : Parse) → NoTerm r → expressionAnswer us r ≡ expressionAt bytes (length bytes) variables (at + 1) → stop (refusalOf r (length bytes)) ≡ ruleAt bytes variables at
+    unfolding ruleAt stopAs proofRefusal
+    opened-no-argument r o h =
+        let (rule, e) = row-argument (getElem? rules number) (b .kind) in
+        goes-on _ (byte-there bytes at (b .there) (b .is)) (goes-on _ (is-found (UnfitRule at) e) (stops _ (refuses r o ∙ ap (proofField bytes) h)))
+      where
+        refuses : (r : Parse) → NoTerm r → stop (refusalOf r (length bytes)) ≡ proofField bytes (expressionAnswer us r)
+        refuses (Found m n l t) o = no-term o
+        refuses Missing o = refl
+        refuses (Fault p) o = refl
+
+-- ---- the ways out
+module _ {bytes ws : List ℕ} {variables top at : ℕ} (f : Formed ws top) where
+  opens-refused : {r : Refusal} → stop r ≡ ruleAt bytes variables at → Opens bytes ws ws variables top at (Refused r)
+  opens-refused e = record { answer = e; kept = same-refl 0 (place top) ws; formed = f; above = omega arith; few = omega arith; known = tt }
+
+  opens-rule : {number v next : ℕ} → value (ruleOf ws number v, next) ≡ ruleAt bytes variables at → {form : Form} → form ≡ formOf (getElem? rules number) → (form ≡ Unknown → ⊥) → (form ≡ Argument → ⊥) → Opens bytes ws ws variables top at (OpenRule number v next top)
+  opens-rule {number} e k m n = record { answer = e; kept = same-refl 0 (place top) ws; formed = f; above = omega arith; few = omega arith; known = (known-row number k m, λ a. absurd (n (k ∙ sym a))) }
+
+  pub opens-missing : length bytes ≤ at → Opens bytes ws ws variables top at (Refused (ProofExhausted (length bytes)))
+  unfolding ruleAt
+  opens-missing h = opens-refused (stops _ (byte-missing bytes at h))
+
+  module _ {number : ℕ} where
+    pub opens-plain : (v : ℕ) → Begun bytes number at Plain → Opens bytes ws ws variables top at (OpenRule number v (at + 1) top)
+    opens-plain v b = opens-rule (opened-plain ws variables b v) (b .kind) (λ a. clash a (omega arith)) (λ a. clash a (omega arith))
+
+    pub opens-unknown : Begun bytes number at Unknown → Opens bytes ws ws variables top at (Refused (UnfitRule at))
+    opens-unknown b = opens-refused (opened-unknown ws variables b)
+
+    module _ (b : Begun bytes number at Index) where
+      pub opens-index-missing : length bytes - at < 3 → Opens bytes ws ws variables top at (Refused (ProofExhausted (length bytes)))
+      opens-index-missing h = opens-refused (opened-index-missing ws variables b h)
+
+      pub opens-index : {v : ℕ} → 3 ≤ length bytes - at → v ≡ le16 bytes (at + 1) → Opens bytes ws ws variables top at (OpenRule number v (at + 3) top)
+      opens-index h k = opens-rule (opened-index ws variables b h k) (b .kind) (λ a. clash a (omega arith)) (λ a. clash a (omega arith))
+
+    module _ (b : Begun bytes number at Region) where
+      pub opens-region-missing : length bytes - at < 2 → Opens bytes ws ws variables top at (Refused (ProofExhausted (length bytes)))
+      opens-region-missing h = opens-refused (opened-region-missing ws variables b h)
+
+      pub opens-region : {v : ℕ} → 2 ≤ length bytes - at → v ≡ getD bytes (at + 1) 0 → Opens bytes ws ws variables top at (OpenRule number v (at + 2) top)
+      opens-region h k = opens-rule (opened-region ws variables b h k) (b .kind) (λ a. clash a (omega arith)) (λ a. clash a (omega arith))
+
+-- the registers' nodes are those of the table's first variables
+nodes-below : Every (λ k. getD registerNodes k 0 < 16) (downFrom 16)
+unfolding downFrom
+nodes-below = search (_&_, empty, lit<, tt) depth 60
+
+pub register-below : (v : ℕ) → v < 16 → getD registerNodes v 0 < 16
+register-below v h = each-below 16 nodes-below v h
+
+pub opening-ready : {ws : List ℕ} {variables top : ℕ} → Opening ws variables top → Ready ws registerNodes top mostNodes
+opening-ready o = record { formed = o .formed; space = o .space; held = λ v h. omega (arith, register-below v h, o .above) }
+
+module _ {bytes ws us : List ℕ} {variables top at number : ℕ} (b : Begun bytes number at Argument) (o : Opening ws variables top) where
+  pub opens-argument : {m next left high : ℕ} → ExpressionRead ws us registerNodes bytes (length bytes) variables (at + 1) top (Found m next left high) → Opens bytes ws us variables top at (OpenRule number m next high)
+  opens-argument {m} r = record {
+    answer = opened-argument us variables b m (r .answer ∙ expression-self (o .registers) _);
+    kept = r .grown .kept;
+    formed = r .grown .formed;
+    above = r .grown .grows;
+    few = omega (arith, r .grown .few);
+    known = (known-row number (b .kind) (λ a. clash a (omega arith)), λ _. r .grown .within .0);
+  }
+
+  pub opens-no-argument : (r : Parse) {x : Refusal} → NoTerm r → ExpressionRead ws us registerNodes bytes (length bytes) variables (at + 1) top r → x ≡ refusalOf r (length bytes) → Opens bytes ws us variables top at (Refused x)
+  opens-no-argument r n a e = record {
+    answer = ap stop e ∙ opened-no-argument us variables b r n (a .answer ∙ expression-self (o .registers) _);
+    kept = a .grown .kept;
+    formed = formed-less top (a .grown .grows) (a .grown .formed);
+    above = omega arith;
+    few = omega arith;
+    known = tt;
+  }
+
+-- ---- needs of the code
+pub refused-other : (r : Parse) (size : ℕ) → (variant (declared parse-enum) r ≡ 0) ⊎ (variant (declared parse-enum) r ≡ 1) → ProofExhausted size ≡ refusalOf r size
+refused-other (Found m n l t) size o = refl
+refused-other Missing size o = refl
+refused-other (Fault p) size o = neither (omega arith) (omega arith) o
+
+pub refused-fault : {r : Parse} {p : ℕ} (size : ℕ) → r ≡ Fault p → BadArgument p ≡ refusalOf r size
+refused-fault size e = rw e
+
+pub begun : {bytes : List ℕ} {number at : ℕ} {f form : Form} → at < length bytes → number ≡ getD bytes at 0 → f ≡ formOf (getElem? rules number) → f ≡ form → Begun bytes number at form
+begun h e k t = record { there = h; is = e; kind = sym t ∙ k }

@@ -1,0 +1,43 @@
+-- Laws of the choice among the rules: one for each arm. Assumes nothing.
+use mathlib.Core.Path.{_≡_, sym, ap, _∙_}
+use mathlib.Core.List.{List}
+use Prim.Native.Nat.{ℕ, zero, suc, _<_, _≤_}
+use native.Mathlib.Omega.{arith}
+use lib.ListN.{getElem?}
+use Rattle.model.specs.Result.{Fit}
+use Rattle.model.specs.Atom.{Atom}
+use Rattle.model.specs.Policy.{Policy}
+use Rattle.model.specs.Goals.{Goal}
+use Rattle.model.specs.Rule.{rules, premises}
+use Rattle.derivation.specs.Parts.{claimOf}
+use Rattle.derivation.specs.Plan.{Planned, asks}
+use Rattle.derivation.specs.Opening.{formOf, ruleOf}
+use Rattle.derivation.specs.Deriving.{Judged, Plannable}
+use Rattle.derivation.specs.declared.Claim.{Claim}
+use Rattle.derivation.specs.declared.Plan.{Plan}
+use Rattle.derivation.specs.declared.Scope.{Scope}
+use Rattle.derivation.specs.declared.opening.Form.the-variants.{Argument}
+use Rattle.derivation.proofs.RuleLaws.{says-as}
+
+-- none of the numbers below k
+abbrev NoneBelow : ℕ → ℕ → Type 0
+NoneBelow zero n = Unit {0}
+NoneBelow (suc k) n = NoneBelow k n × (n ≡ k → ⊥)
+
+none-below : (k n : ℕ) → NoneBelow k n → k ≤ n
+none-below zero n h = omega arith
+none-below (suc k) n h = omega (arith, none-below k n (h .0), h .1)
+
+module _ {ws words : List ℕ} {scope : Scope} {number v : ℕ} {claim : Claim} {top : ℕ} (y : Plannable ws words scope number v claim top) where
+  pub last-rule : NoneBelow 24 number → number ≡ 24
+  last-rule h = omega (arith, none-below 24 number h, y .known)
+
+  -- the argument of a rule of number n
+  pub argument-below : (n : ℕ) → number ≡ n → Argument ≡ formOf (getElem? rules n) → v < top
+  argument-below n e k = y .held (k ∙ ap (λ j. formOf (getElem? rules j)) (sym e))
+
+-- what is planned is what the rule of number n asks
+pub chosen : {Where : Policy → Goal → Type 0} {asked : Policy → Goal → Fit (List Atom)} {words ws us : List ℕ} {scope : Scope} {number top : ℕ} {p : Plan} (v : ℕ) (claim : Claim) (n : ℕ) → number ≡ n → Planned Where asked ws us top p
+    → ((policy : Policy) (g : Goal) → Judged words ws scope policy g → Where policy g × (asked policy g ≡ premises policy g (ruleOf ws n v) (claimOf ws claim)))
+    → Planned (Judged words ws scope) (asks (ruleOf ws number v) (claimOf ws claim)) ws us top p
+chosen {ws = ws} v claim n e q k = says-as q (λ policy g j. (k policy g j .0, k policy g j .1 ∙ ap (λ i. premises policy g (ruleOf ws i v) (claimOf ws claim)) (sym e)))

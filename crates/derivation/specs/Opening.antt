@@ -1,0 +1,103 @@
+-- A rule read from the proof, in terms of the term table. Assumes nothing.
+use mathlib.Core.Path.{_≡_}
+use mathlib.Core.Bool.{true, false, _&&_, _||_}
+use mathlib.Core.Option.{Option, none, some}
+use mathlib.Core.List.{List, [], _∷_}
+use Prim.Native.Nat.{ℕ, _+_, _<_, _≤_}
+use lib.Dec.{eqb, leb}
+use lib.ListN.{length, getD, getElem?}
+use Rattle.model.specs.Result.{Result, stop, value}
+use Rattle.model.specs.Expression.{mostNodes, registerCount}
+use Rattle.model.specs.Goals.{registerVariables}
+use Rattle.model.specs.Rule.{Rule, Format, plain, with-index, with-term, with-region, rules, contradiction}
+use Rattle.model.specs.Derivation.{ruleAt}
+use Rattle.model.specs.declared.Refusal.{Refusal}
+use Rattle.model.specs.declared.Refusal.the-variants.{ProofExhausted, BadArgument}
+use Rattle.terms.specs.Workspace.{mostVariables, Same}
+use Rattle.terms.specs.Table.{place, termAt, Formed, Space}
+use Rattle.terms.specs.Reader.{RegisterTerms}
+use Rattle.terms.specs.declared.reader.Parse.{Parse}
+use Rattle.terms.specs.declared.reader.Parse.the-variants.{Term as Found, Missing, Fault}
+use Rattle.derivation.specs.declared.opening.Form.{Form}
+use Rattle.derivation.specs.declared.opening.Form.the-variants.{Plain, Index, Argument, Region, Unknown}
+use Rattle.derivation.specs.declared.opening.Opened.{Opened}
+use Rattle.derivation.specs.declared.opening.Opened.the-variants.{Rule as OpenRule, Refused}
+
+-- what stands after the byte of a row of the model's table of rules
+abbrev pub formOf : Option Format → Form
+formOf none = Unknown
+formOf (some (plain rule)) = Plain
+formOf (some (with-index rule)) = Index
+formOf (some (with-term rule)) = Argument
+formOf (some (with-region rule)) = Region
+
+-- a row's rule with its argument: an index, a region's number or a node of the words us; contradiction stands where there is no row
+abbrev pub ruleIn : List ℕ → (argument : ℕ) → Option Format → Rule
+ruleIn us v none = contradiction (termAt us v)
+ruleIn us v (some (plain rule)) = rule
+ruleIn us v (some (with-index rule)) = rule v
+ruleIn us v (some (with-term rule)) = rule (termAt us v)
+ruleIn us v (some (with-region rule)) = rule v
+
+-- the rule of a number
+unfoldable pub ruleOf : List ℕ → (number argument : ℕ) → Rule
+ruleOf us number v = ruleIn us v (getElem? rules number)
+
+-- the tests of a rule's number
+unfoldable pub formOfNumber : ℕ → Form
+formOfNumber n =
+    elim (eqb n 0) [
+      | true ↦ Index
+      | false ↦
+          elim (leb 5 n && leb n 8 || eqb n 24) [
+            | true ↦ Argument
+            | false ↦ elim (leb 22 n && leb n 23) [ true ↦ Region | false ↦ elim (leb n 24) [ true ↦ Plain | false ↦ Unknown ] ]
+          ]
+    ]
+
+-- "15: proof exhausted (package length)"; "18: argument faulty"
+abbrev pub refusalOf : Parse → (size : ℕ) → Refusal
+refusalOf (Found number next left top) size = ProofExhausted size
+refusalOf Missing size = ProofExhausted size
+refusalOf (Fault p) size = BadArgument p
+
+-- the rule and the next position that an answer says in the words us
+abbrev pub openedOf : List ℕ → Opened → Result Refusal (Rule × ℕ)
+openedOf us (OpenRule number v next top) = value (ruleOf us number v, next)
+openedOf us (Refused f) = stop f
+
+-- ---- the contracts
+-- a rule byte that is there, and what stands after it
+pub record Begun (bytes : List ℕ) (number at : ℕ) (form : Form) : Type 0 where
+  pub there : at < length bytes
+  pub is : number ≡ getD bytes at 0
+  pub kind : form ≡ formOf (getElem? rules number)
+
+-- nodes 0 to 15
+abbrev pub registerNodes : List ℕ
+registerNodes = 0 ∷ 1 ∷ 2 ∷ 3 ∷ 4 ∷ 5 ∷ 6 ∷ 7 ∷ 8 ∷ 9 ∷ 10 ∷ 11 ∷ 12 ∷ 13 ∷ 14 ∷ 15 ∷ []
+
+-- what reading a rule needs: nodes 0 to 15 are variables 0 to 15, there is room for an argument, and the variables are few
+pub record Opening (ws : List ℕ) (variables top : ℕ) : Type 0 where
+  pub formed : Formed ws top
+  pub space : Space ws top mostNodes
+  pub above : registerCount ≤ top
+  pub registers : RegisterTerms ws registerNodes registerVariables
+  pub most : variables ≤ mostVariables
+
+-- the table's new top; the rule is known, and its argument, if it is a node, is below the new top
+abbrev pub topOf : (top : ℕ) → Opened → ℕ
+topOf top (OpenRule number v next t) = t
+topOf top (Refused f) = top
+
+abbrev pub Known : Opened → Type 0
+Known (OpenRule number v next t) = (number < length rules) × (Argument ≡ formOf (getElem? rules number) → v < t)
+Known (Refused f) = Unit {0}
+
+pub record Opens (bytes ws us : List ℕ) (variables top at : ℕ) (r : Opened) : Type 0 where
+  pub answer : openedOf us r ≡ ruleAt bytes variables at
+  pub kept : Same 0 (place top) ws us
+  pub formed : Formed us (topOf top r)
+  pub above : top ≤ topOf top r
+  pub few : topOf top r ≤ top + mostNodes
+  pub known : Known r
