@@ -1,0 +1,79 @@
+use native.Mathlib.Omega.{arith}
+use borrow.Author.Needs.{needs}
+use Rattle.goals.proofs.arrival.Statement.{statement}
+use Rattle.goals.proofs.arrival.Tie as tie
+use Rattle.goals.proofs.Walking.{path-ready}
+use Rattle.goals.proofs.Arriving.{arrival-unread, arrival-asks, arrival-stopped, owed-asks, arrival-judged}
+
+add-expression : tie.Need-add-expression
+add-expression c = search needs
+
+expression-requires : tie.Need-expression-requires
+expression-requires c κs = ((c .before .before .before .before .before .pre .0 .0, omega arith), path-ready 31 (omega arith) (c .before .before .before .before .before .pre .1 .0 .inside) (c .before .before .before .before .before .pre .1 .0 .space))
+
+enum-known-read : tie.Need-enum-known-read
+enum-known-read c = search needs
+
+same-length : tie.Need-same-length
+same-length c = search needs
+
+returns : tie.Need-returns
+returns c = arrival-unread (c .before .before .before .expression .result) (c .before .before .before .expression .ensures) (c .match .keys2)
+
+raised-requires : tie.Need-raised-requires
+raised-requires c κs = search needs
+
+add-wide : tie.Need-add-wide
+add-wide c = search needs
+
+shared-slice-read-wide : tie.Need-shared-slice-read-wide
+shared-slice-read-wide c = search needs
+
+wide-requires : tie.Need-wide-requires
+wide-requires c κs = search needs
+
+atoms-requires : tie.Need-atoms-requires
+atoms-requires c κs = (c .before .before .before .before .before .before .before .before .before .before .before .before .before .before .before .pre .0 .0, arrival-asks (c .before .before .before .before .before .before .before .before .before .before .before .before .before .before .before .args .at) (c .before .before .before .before .before .before .before .before .before .before .before .before .before .before .before .pre .1 .0) (c .before .before .before .before .before .before .before .before .before .before .before .before .before .before .before .pre .1 .1) (c .before .before .before .before .before .before .before .before .before .expression .kept .1 .0) (c .before .before .before .before .before .before .before .before .before .expression .ensures) (c .before .before .before .before .before .read .given .1) (c .before .before .before .raised .ensures))
+
+enum-known-first : tie.Need-enum-known-first
+enum-known-first c = search needs
+
+enum-told : tie.Need-enum-told
+enum-told c = search needs
+
+same-length-2 : tie.Need-same-length-2
+same-length-2 c = search needs
+
+returns-2 : tie.Need-returns-2
+returns-2 c = arrival-stopped (c .before .before .before .before .before .before .before .before .before .before .before .before .before .before .before .before .before .before .before .before .args .at) (c .before .before .before .before .before .before .before .before .before .before .before .before .before .before .before .before .before .before .before .before .pre .1 .0) (c .before .before .before .before .before .before .before .before .before .before .before .before .before .before .before .before .before .before .before .before .pre .1 .1) (c .before .before .before .before .before .before .before .before .before .before .before .before .before .before .expression .kept .1 .0) (c .before .before .before .before .before .before .before .before .before .before .before .before .before .before .expression .ensures) (c .before .before .before .before .before .before .before .before .before .before .read .given .1) (c .before .before .before .before .before .before .before .before .raised .ensures) (c .before .before .before .before .before .before .wide .ensures) (c .before .before .before .before .atoms .ensures) (c .enum-told .given .1)
+
+credits-requires : tie.Need-credits-requires
+credits-requires c κs = owed-asks (c .before .before .before .before .before .before .before .before .before .before .before .before .before .before .before .before .before .before .before .before .before .before .args .at) (c .before .before .before .before .before .before .before .before .before .before .before .before .before .before .before .before .before .before .before .before .before .before .pre .1 .0) (c .before .before .before .before .before .before .before .before .before .before .before .before .before .before .before .before .before .before .before .before .before .before .pre .1 .1) (c .before .before .before .before .before .before .before .before .before .before .before .before .before .before .before .before .expression .kept .1 .0) (c .before .before .before .before .before .before .before .before .before .before .before .before .before .before .before .before .expression .ensures) (c .before .before .before .before .before .before .before .before .before .before .before .before .read .given .1) (c .before .before .before .before .before .before .before .before .before .before .raised .ensures) (c .before .before .before .before .before .before .before .before .wide .ensures) (c .before .before .before .before .before .before .atoms .ensures) (c .before .before .first .given .1) (c .before .before .before .before .before .before .atoms .kept .1 .1 .1 .1 .1 .1 .1 .0)
+
+same-length-3 : tie.Need-same-length-3
+same-length-3 c = search needs
+
+returns-3 : tie.Need-returns-3
+returns-3 c = arrival-judged (c .before .before .before .before .before .before .before .before .before .before .before .before .before .before .before .before .before .before .before .before .before .before .before .before .before .args .at) (c .before .before .before .before .before .before .before .before .before .before .before .before .before .before .before .before .before .before .before .before .before .before .before .before .before .pre .1 .0) (c .before .before .before .before .before .before .before .before .before .before .before .before .before .before .before .before .before .before .before .before .before .before .before .before .before .pre .1 .1) (c .before .before .before .before .before .before .before .before .before .before .before .before .before .before .before .before .before .before .before .expression .kept .1 .0) (c .before .before .before .before .before .before .before .before .before .before .before .before .before .before .before .before .before .before .before .expression .ensures) (c .before .before .before .before .before .before .before .before .before .before .before .before .before .before .before .read .given .1) (c .before .before .before .before .before .before .before .before .before .before .before .before .before .raised .ensures) (c .before .before .before .before .before .before .before .before .before .before .before .wide .ensures) (c .before .before .before .before .before .before .before .before .before .atoms .ensures) (c .before .before .before .before .before .first .given .1) (c .before .before .before .before .before .before .before .before .before .atoms .kept .1 .1 .1 .1 .1 .1 .1 .0) (c .before .before .credits .ensures)
+
+pub arrival-spec : {M : Type 1} → statement M
+arrival-spec =
+    tie.close
+    (tie.spec
+    add-expression
+    expression-requires
+    enum-known-read
+    same-length
+    returns
+    raised-requires
+    add-wide
+    shared-slice-read-wide
+    wide-requires
+    atoms-requires
+    enum-known-first
+    enum-told
+    same-length-2
+    returns-2
+    credits-requires
+    same-length-3
+    returns-3)

@@ -1,0 +1,4 @@
+pub mod Judging
+pub mod Walking
+pub mod Settling
+pub mod Starting

@@ -1,0 +1,131 @@
+// Where a block starts: its assumptions and its credit.
+use crate::Path;
+use model::Comparison;
+use terms::reader::AtomParse;
+use terms::reader::Parse;
+ghost use mathlib.Core.Path.{_≡_};
+ghost use Prim.Native.Nat.{ℕ, _+_, _≤_, _<_};
+ghost use lib.ListN.{length, getD};
+ghost use Rattle.terms.specs.Workspace.{workspaceWords, mostAssumptions, mostTableNodes};
+ghost use Rattle.terms.specs.Table.{termAt};
+ghost use Rattle.goals.specs.Walking.{PathIn};
+ghost use Rattle.goals.specs.Starting.{Assumed, Workspace, Variables, Started, Fresh, AllAssumed, EntryBlock, AnnotationBlock};
+
+// Where a block starts, and the node of its credit.
+pub struct Block {
+    pub path: Path,
+    pub credit: usize,
+}
+
+// The path with a comparison of two nodes assumed besides.
+pub fn assuming(ws: &mut [u32], mut path: Path, kind: Comparison, left: usize, right: usize) -> Path
+    requires { ⌜ PathIn (now ws) path ⌝ }
+    requires { ⌜ (path .assumptions < mostAssumptions) × (path .top ≤ mostTableNodes) × (workspaceWords ≤ length (now ws)) ⌝ }
+    requires { ⌜ (left < path .top) × (right < path .top) ⌝ }
+    ensures { λ r. ⌜ Assumed (now (ws .entry)) (now (ws .exit)) path (record { kind = kind; left = termAt (now (ws .entry)) left; right = termAt (now (ws .entry)) right }) r ⌝ }
+{
+    assumptions::push(ws, path.assumptions, path.top, kind, left, right);
+    path.assumptions += 1;
+    path
+}
+
+// Puts variables 0 to 15 at nodes 0 to 15.
+fn variables(ws: &mut [u32])
+    requires { ⌜ workspaceWords ≤ length (now ws) ⌝ }
+    ensures { λ _. ⌜ Variables (now (ws .entry)) (now (ws .exit)) 16 ⌝ }
+{
+    let mut v = 0;
+    while v < 16 {
+        terms::put_variable(ws, v, v as u32);
+        v += 1;
+    }
+}
+
+// The path at a block's start, with nothing assumed.
+fn start(ws: &mut [u32], index: usize) -> Path
+    requires { ⌜ Workspace (now ws) ⌝ }
+    ensures { λ r. ⌜ Started (now (ws .exit)) index r ⌝ }
+{
+    variables(ws);
+    let registers = [0, 1, 2, 3, 4, 5, 6, 7, 8, 9, 10, 11, 12, 13, 14, 15];
+    Path {
+        counter: index,
+        steps: 0,
+        variables: 16,
+        assumptions: 0,
+        top: 16,
+        registers,
+    }
+}
+
+// The path with `number` atoms assumed besides, which stand at `at` in `source`.
+fn assume(source: &[u8], end: usize, at: usize, number: usize, ws: &mut [u32], path: Path) -> Path
+    requires { ⌜ end ≤ length (now source) ⌝ }
+    requires { ⌜ Fresh (now ws) path number ⌝ }
+    ensures { λ r. ⌜ AllAssumed (now (ws .entry)) (now (ws .exit)) path (now (source .entry)) end at number r ⌝ }
+{
+    if number == 0 {
+        return path;
+    }
+    let registers = path.registers;
+    let read = terms::reader::atom(source, ws, end, 16, registers, at, path.top);
+    let AtomParse::Atom {
+        kind,
+        left,
+        right,
+        next,
+        top,
+    } = read
+    else {
+        return path;
+    };
+    let more = assuming(ws, crate::raised(path, top), kind, left, right);
+    assume(source, end, next, number - 1, ws, more)
+}
+
+// The block at instruction 0: the `number` atoms of the precondition, which stand at `at` in the policy, are assumed, and the credit is the
+// step limit.
+pub fn entry_block(policy: &[u8], at: usize, number: usize, limit: u32, ws: &mut [u32]) -> Block
+    requires { ⌜ Workspace (now ws) ⌝ }
+    requires { ⌜ number ≤ 16 ⌝ }
+    ensures { λ r. ⌜ EntryBlock (now (ws .exit)) (now (policy .entry)) at number limit r ⌝ }
+{
+    let first = start(ws, 0);
+    terms::put_constant(ws, 16, limit);
+    let path = assume(
+        policy,
+        policy.len(),
+        at,
+        number,
+        ws,
+        crate::raised(first, 17),
+    );
+    Block { path, credit: 16 }
+}
+
+// The block at the annotation that stands at `at`, whose index is given: its atoms are assumed, and the credit is its own. Check 11 has read
+// the annotation before, so that it can be read here.
+pub fn annotation_block(bytes: &[u8], end: usize, at: usize, index: usize, ws: &mut [u32]) -> Block
+    requires { ⌜ Workspace (now ws) ⌝ }
+    requires { ⌜ (end ≤ length (now bytes)) × (at + 2 < end) × (getD (now bytes) (at + 2) 0 ≤ 16) ⌝ }
+    ensures { λ r. ⌜ AnnotationBlock (now (ws .exit)) (now (bytes .entry)) end at index r ⌝ }
+{
+    let first = start(ws, index);
+    let registers = first.registers;
+    let read = terms::reader::expression(bytes, ws, end, 16, registers, at + 3, 16);
+    let Parse::Term {
+        number: credit,
+        next,
+        left: _,
+        top,
+    } = read
+    else {
+        return Block {
+            path: first,
+            credit: 0,
+        };
+    };
+    let number = crate::wide(bytes[at + 2]);
+    let path = assume(bytes, end, next, number, ws, crate::raised(first, top));
+    Block { path, credit }
+}

@@ -1,0 +1,337 @@
+// Goals: each is made, derived at once where the proof has been read to, counted and forgotten.
+pub mod blocks;
+
+use derivation::Claim;
+use derivation::Derived;
+use derivation::Goal;
+use derivation::Scope;
+use model::Comparison;
+use model::Refusal;
+use terms::reader::AtomParse;
+use terms::reader::Parse;
+ghost use mathlib.Core.Path.{_≡_};
+ghost use Prim.Native.Nat.{ℕ, _+_, _≤_, _<_};
+ghost use lib.ListN.{length};
+ghost use Rattle.model.specs.Term.{constant, difference};
+ghost use Rattle.model.specs.Atom.{atMost};
+ghost use Rattle.model.specs.Package.{mostInstructions};
+ghost use Rattle.model.specs.Goals.{atom};
+ghost use Rattle.terms.specs.Table.{termAt};
+ghost use Rattle.derivation.specs.Parts.{claimOf};
+ghost use Rattle.derivation.specs.Regions.{regionsOf};
+ghost use Rattle.goals.specs.Walking.{pathOf, raisedTo, NodeIn, ClaimIn, Going, derivationRoom, atomRoom, creditRoom, goalRoom};
+ghost use Rattle.goals.specs.Settling.{GoalJudged, AtomsJudged, CreditsJudged, ArrivalJudged, ReturnJudged};
+
+// Where the proof has been read to, and how many goals are derived.
+pub struct Progress {
+    pub at: usize,
+    pub goals: usize,
+}
+
+// What comes of deriving goals: the progress after them, or the refusal and the goals derived by then.
+pub enum Judged {
+    Next(Progress),
+    Refused(Refusal, usize),
+}
+
+// A path of a block: where it has come to, instructions run, variables so far, assumptions so far, the top of the term table, and each
+// register's node.
+pub struct Path {
+    pub counter: usize,
+    pub steps: usize,
+    pub variables: usize,
+    pub assumptions: usize,
+    pub top: usize,
+    pub registers: [u32; 16],
+}
+
+// A byte as a number.
+fn wide(x: u8) -> usize
+    ensures { λ r. ⌜ r ≡ x ⌝ }
+{
+    x as usize
+}
+
+// The path with more nodes in the table.
+pub fn raised(mut path: Path, top: usize) -> Path
+    ensures { λ r. ⌜ r ≡ raisedTo path top ⌝ }
+{
+    path.top = top;
+    path
+}
+
+// One claim of the path, derived where the proof has been read to.
+pub fn goal(
+    bytes: &[u8],
+    regions: &[u32],
+    count: usize,
+    ws: &mut [u32],
+    path: Path,
+    claim: Claim,
+    progress: Progress,
+) -> Judged
+    requires { ⌜ Going (now ws) (now regions) (now bytes) count derivationRoom path progress ⌝ }
+    requires { ⌜ ClaimIn (now ws) path claim ⌝ }
+    ensures { λ r. ⌜ GoalJudged (now (ws .entry)) (now (ws .exit)) (now (bytes .entry)) (regionsOf (now (regions .entry)) count) (path .top) (pathOf (now (ws .entry)) path) progress r (claimOf (now (ws .entry)) claim) ⌝ }
+{
+    let made = Goal {
+        claim,
+        instruction: path.counter,
+    };
+    let scope = Scope {
+        regions: count,
+        assumptions: path.assumptions,
+        variables: path.variables,
+    };
+    let derived = derivation::check_goal(bytes, regions, ws, scope, path.top, made, progress.at);
+    let counted = progress.goals + 1;
+    match derived {
+        Derived::Next(at) => Judged::Next(Progress { at, goals: counted }),
+        Derived::Refused(refusal) => Judged::Refused(refusal, progress.goals),
+    }
+}
+
+// The goals of `number` atoms that stand at `at` in `source`, over the path's registers. Check 6 or 11 has read them before, so that they can be
+// read here.
+fn atoms(
+    source: &[u8],
+    end: usize,
+    at: usize,
+    number: usize,
+    bytes: &[u8],
+    regions: &[u32],
+    count: usize,
+    ws: &mut [u32],
+    path: Path,
+    progress: Progress,
+) -> Judged
+    requires { ⌜ end ≤ length (now source) ⌝ }
+    requires { ⌜ Going (now ws) (now regions) (now bytes) count atomRoom path progress ⌝ }
+    ensures { λ r. ⌜ AtomsJudged (now (ws .entry)) (now (ws .exit)) (now (bytes .entry)) (regionsOf (now (regions .entry)) count) (path .top) (pathOf (now (ws .entry)) path) progress r (now (source .entry)) end at number ⌝ }
+{
+    if number == 0 {
+        return Judged::Next(progress);
+    }
+    let registers = path.registers;
+    let read = terms::reader::atom(source, ws, end, 16, registers, at, path.top);
+    let AtomParse::Atom {
+        kind,
+        left,
+        right,
+        next,
+        top,
+    } = read
+    else {
+        return Judged::Refused(Refusal::AnnotationBytes(at), progress.goals);
+    };
+    let first = goal(
+        bytes,
+        regions,
+        count,
+        ws,
+        raised(path, top),
+        Claim::Atom(kind, left, right),
+        progress,
+    );
+    let Judged::Next(after) = first else {
+        return first;
+    };
+    atoms(
+        source,
+        end,
+        next,
+        number - 1,
+        bytes,
+        regions,
+        count,
+        ws,
+        path,
+        after,
+    )
+}
+
+// The goal that so many instructions are at most the credit.
+fn credit_covers(
+    bytes: &[u8],
+    regions: &[u32],
+    count: usize,
+    ws: &mut [u32],
+    path: Path,
+    spent: usize,
+    credit: usize,
+    progress: Progress,
+) -> Judged
+    requires { ⌜ Going (now ws) (now regions) (now bytes) count creditRoom path progress ⌝ }
+    requires { ⌜ NodeIn (now ws) path credit ⌝ }
+    requires { ⌜ spent ≤ mostInstructions + 1 ⌝ }
+    ensures { λ r. ⌜ GoalJudged (now (ws .entry)) (now (ws .exit)) (now (bytes .entry)) (regionsOf (now (regions .entry)) count) (path .top) (pathOf (now (ws .entry)) path) progress r (atom (atMost (constant spent) (termAt (now (ws .entry)) credit))) ⌝ }
+{
+    let top = path.top;
+    terms::put_constant(ws, top, spent as u32);
+    goal(
+        bytes,
+        regions,
+        count,
+        ws,
+        raised(path, top + 1),
+        Claim::Atom(Comparison::AtMost, top, credit),
+        progress,
+    )
+}
+
+// The goal that what is owed is at most the credit less the instructions run.
+fn rest_covers(
+    bytes: &[u8],
+    regions: &[u32],
+    count: usize,
+    ws: &mut [u32],
+    path: Path,
+    credit: usize,
+    owed: usize,
+    progress: Progress,
+) -> Judged
+    requires { ⌜ Going (now ws) (now regions) (now bytes) count creditRoom path progress ⌝ }
+    requires { ⌜ NodeIn (now ws) path credit ⌝ }
+    requires { ⌜ NodeIn (now ws) path owed ⌝ }
+    ensures { λ r. ⌜ GoalJudged (now (ws .entry)) (now (ws .exit)) (now (bytes .entry)) (regionsOf (now (regions .entry)) count) (path .top) (pathOf (now (ws .entry)) path) progress r (atom (atMost (termAt (now (ws .entry)) owed) (difference (termAt (now (ws .entry)) credit) (constant (path .steps))))) ⌝ }
+{
+    let spent = path.top;
+    let rest = spent + 1;
+    terms::put_constant(ws, spent, path.steps as u32);
+    terms::put_difference(ws, rest, credit, spent);
+    goal(
+        bytes,
+        regions,
+        count,
+        ws,
+        raised(path, rest + 1),
+        Claim::Atom(Comparison::AtMost, owed, rest),
+        progress,
+    )
+}
+
+// The two goals on the credit of a path that arrives: the instructions run at most the credit, and what is owed at most the rest of it.
+fn credits(
+    bytes: &[u8],
+    regions: &[u32],
+    count: usize,
+    ws: &mut [u32],
+    path: Path,
+    credit: usize,
+    owed: usize,
+    progress: Progress,
+) -> Judged
+    requires { ⌜ Going (now ws) (now regions) (now bytes) count creditRoom path progress ⌝ }
+    requires { ⌜ NodeIn (now ws) path credit ⌝ }
+    requires { ⌜ NodeIn (now ws) path owed ⌝ }
+    ensures { λ r. ⌜ CreditsJudged (now (ws .entry)) (now (ws .exit)) (now (bytes .entry)) (regionsOf (now (regions .entry)) count) (path .top) (pathOf (now (ws .entry)) path) progress r (termAt (now (ws .entry)) credit) (termAt (now (ws .entry)) owed) ⌝ }
+{
+    let first = credit_covers(
+        bytes,
+        regions,
+        count,
+        ws,
+        path,
+        path.steps,
+        credit,
+        progress,
+    );
+    let Judged::Next(after) = first else {
+        return first;
+    };
+    rest_covers(bytes, regions, count, ws, path, credit, owed, after)
+}
+
+// The goals of a path that has arrived at the annotation that stands at `at`: its atoms, the instructions run at most the credit, and its
+// own credit at most the rest. Check 11 has read the annotation before, so that it can be read here.
+pub fn arrival(
+    bytes: &[u8],
+    end: usize,
+    at: usize,
+    regions: &[u32],
+    count: usize,
+    ws: &mut [u32],
+    path: Path,
+    credit: usize,
+    progress: Progress,
+) -> Judged
+    requires { ⌜ (end ≤ length (now bytes)) × (at + 2 < end) ⌝ }
+    requires { ⌜ Going (now ws) (now regions) (now bytes) count goalRoom path progress ⌝ }
+    requires { ⌜ NodeIn (now ws) path credit ⌝ }
+    ensures { λ r. ⌜ ArrivalJudged (now (ws .entry)) (now (ws .exit)) (now (bytes .entry)) (regionsOf (now (regions .entry)) count) (path .top) (pathOf (now (ws .entry)) path) progress r (termAt (now (ws .entry)) credit) end at ⌝ }
+{
+    let registers = path.registers;
+    let read = terms::reader::expression(bytes, ws, end, 16, registers, at + 3, path.top);
+    let Parse::Term {
+        number: owed,
+        next,
+        left: _,
+        top,
+    } = read
+    else {
+        return Judged::Refused(Refusal::AnnotationBytes(at), progress.goals);
+    };
+    let inner = raised(path, top);
+    let number = wide(bytes[at + 2]);
+    let first = atoms(
+        bytes,
+        end,
+        next,
+        number,
+        bytes,
+        regions,
+        count,
+        ws,
+        inner,
+        progress,
+    );
+    let Judged::Next(after) = first else {
+        return first;
+    };
+    credits(bytes, regions, count, ws, inner, credit, owed, after)
+}
+
+// The goals of a return: the atoms of the postcondition, `number` of which stand at `at` in the policy, and the instructions run, the return
+// counted, at most the credit.
+pub fn returning(
+    policy: &[u8],
+    at: usize,
+    number: usize,
+    bytes: &[u8],
+    regions: &[u32],
+    count: usize,
+    ws: &mut [u32],
+    path: Path,
+    credit: usize,
+    progress: Progress,
+) -> Judged
+    requires { ⌜ Going (now ws) (now regions) (now bytes) count goalRoom path progress ⌝ }
+    requires { ⌜ NodeIn (now ws) path credit ⌝ }
+    ensures { λ r. ⌜ ReturnJudged (now (ws .entry)) (now (ws .exit)) (now (bytes .entry)) (regionsOf (now (regions .entry)) count) (path .top) (pathOf (now (ws .entry)) path) progress r (termAt (now (ws .entry)) credit) (now (policy .entry)) at number ⌝ }
+{
+    let first = atoms(
+        policy,
+        policy.len(),
+        at,
+        number,
+        bytes,
+        regions,
+        count,
+        ws,
+        path,
+        progress,
+    );
+    let Judged::Next(after) = first else {
+        return first;
+    };
+    credit_covers(
+        bytes,
+        regions,
+        count,
+        ws,
+        path,
+        path.steps + 1,
+        credit,
+        after,
+    )
+}
