@@ -1,7 +1,7 @@
 // Derivations: the rules, and the checker of a derivation in prefix form.
-pub mod opening;
-pub mod parts;
-pub mod rules;
+mod opening;
+mod parts;
+mod rules;
 
 use model::Comparison;
 use model::Refusal;
