@@ -48,7 +48,7 @@ pub struct Plan {
 }
 
 // What a rule in the proof comes to: its premises and the position of the first one's derivation, or a refusal.
-pub enum Step {
+enum Step {
     Premises { plan: Plan, next: usize },
     Refused(Refusal),
 }
@@ -98,7 +98,7 @@ fn apply(
     }
 }
 
-// The refusal that a step is.
+// The refusal that a step is; a step with premises is none, and gives its position.
 fn refused(step: Step) -> Derived
     ensures { λ r. ⌜ r ≡ refusedOf step ⌝ }
 {
