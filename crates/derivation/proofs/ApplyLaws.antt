@@ -1,14 +1,14 @@
 -- Laws of a rule applied to a claim: one for each way out. Assumes nothing.
 use mathlib.Core.Path.{_≡_, refl, sym, ap, subst, _∙_}
-use mathlib.Core.Bool.{Bool, true, false}
-use mathlib.Core.List.{List, [], _∷_}
-use Prim.Native.Nat.{ℕ, zero, suc, _+_, _*_, _<_, _≤_}
+use mathlib.Core.Bool.{true, false}
+use mathlib.Core.List.{List, []}
+use Prim.Native.Nat.{ℕ, zero, suc, _<_, _≤_}
 use native.Mathlib.Omega.{arith}
-use lib.ListN.{length, getD}
-use Rattle.model.specs.Result.{stop, value, stopAs}
+use lib.ListN.{length}
+use Rattle.model.specs.Result.{value, stopAs}
 use Rattle.model.specs.Atom.{Atom}
 use Rattle.model.specs.Policy.{Policy}
-use Rattle.model.specs.Goals.{Goal, Claim as Claimed, atom, readable, writable}
+use Rattle.model.specs.Goals.{Goal}
 use Rattle.model.specs.Rule.{premises}
 use Rattle.model.specs.Derivation.{ruleAt}
 use Rattle.model.specs.declared.Refusal.{Refusal}
@@ -16,22 +16,21 @@ use Rattle.model.specs.declared.Refusal.the-variants.{UnfitRule}
 use Rattle.model.proofs.Gives.{gives-value}
 use Rattle.model.proofs.Lists.{Every, every-head, every-tail}
 use Rattle.terms.specs.Workspace.{assumptionBase, tableBase, Same}
-use Rattle.terms.specs.Table.{place, termAt, Formed, Space}
+use Rattle.terms.specs.Table.{place, Formed}
 use Rattle.terms.proofs.Frames.{same-trans, same-within}
 use Rattle.terms.proofs.Table.{formed-same}
 use Rattle.terms.proofs.Substitution.{register-terms-same}
 use Rattle.assumptions.specs.Area.{listed}
 use Rattle.assumptions.proofs.Laws.{held-kept, listed-kept}
-use Rattle.derivation.specs.Parts.{claimOf, ClaimBelow, AtomBounded, ClaimBounded}
-use Rattle.derivation.specs.Plan.{atomIn, ofOne, ofTwo, ofThree, fitting, premisesOf, planOf, asks, PremiseBelow, Planned}
+use Rattle.derivation.specs.Parts.{claimOf, ClaimBelow, AtomBounded}
+use Rattle.derivation.specs.Plan.{ofThree, fitting, premisesOf, planOf, asks, Planned}
 use Rattle.derivation.specs.Regions.{regionsOf}
-use Rattle.derivation.specs.Opening.{ruleOf, registerNodes, Opening, Opens}
-use Rattle.derivation.specs.Deriving.{Judged, Prepared, Plannable, Derivable, applied, PremiseWithin, Standing, Applies}
+use Rattle.derivation.specs.Opening.{ruleOf, Opening, Opens}
+use Rattle.derivation.specs.Deriving.{Judged, Prepared, Plannable, Derivable, applied, Applies}
 use Rattle.derivation.specs.declared.Claim.{Claim}
 use Rattle.derivation.specs.declared.Claim.the-variants.{Atom as AtomClaim, Readable, Writable}
 use Rattle.derivation.specs.declared.Scope.{Scope}
 use Rattle.derivation.specs.declared.Plan.{Plan}
-use Rattle.derivation.specs.declared.Step.{Step}
 use Rattle.derivation.specs.declared.Step.the-variants.{Premises, Refused as RefusedStep}
 use Rattle.derivation.specs.declared.opening.Opened.{Opened}
 use Rattle.derivation.specs.declared.opening.Opened.the-variants.{Rule as OpenRule, Refused as RefusedRule}

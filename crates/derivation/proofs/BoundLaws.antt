@@ -1,7 +1,6 @@
 -- A rule's premises have no variables but those of the claim and of the rule's argument. Assumes nothing.
 use mathlib.Core.List.{List}
-use mathlib.Core.Path.{_≡_, refl}
-use Prim.Native.Nat.{ℕ, _+_, _≤_, _<_, _-_, zero, suc, max}
+use Prim.Native.Nat.{ℕ, _+_, _≤_, _<_, _-_, zero, suc}
 use native.Mathlib.Omega.{arith}
 use lib.Dec.{ltb, leb}
 use lib.ListN.{length}
@@ -13,7 +12,6 @@ use Rattle.model.specs.Derivation.{proofField, ruleAt}
 use Rattle.model.specs.declared.Refusal.{Refusal}
 use Rattle.model.specs.declared.Refusal.the-variants.{UnfitRule}
 use Rattle.model.specs.Term.{Term, constant, variable, sum, difference}
-use Rattle.model.specs.Atom.{Atom}
 use Rattle.model.specs.Linear.{variableBound}
 use Rattle.model.specs.Policy.{Policy, mayRead, mayWrite}
 use Rattle.model.specs.Goals.{Goal, Claim as Claimed, atom, readable, writable}

@@ -1,7 +1,7 @@
 -- Laws of the derivation checker: one for each way out, and one for each premise that is derived. Assumes nothing.
 use mathlib.Core.Path.{_≡_, refl, sym, ap, subst, _∙_}
 use mathlib.Core.List.{List, [], _∷_}
-use Prim.Native.Nat.{ℕ, zero, suc, _+_, _-_, _*_, _<_, _≤_}
+use Prim.Native.Nat.{ℕ, zero, suc, _-_, _*_, _<_, _≤_}
 use native.Mathlib.Omega.{arith}
 use lib.ListN.{length}
 use denote.Enum.Declared.{tagOf as variant, declared}
@@ -13,12 +13,11 @@ use Rattle.model.specs.Rule.{Rule, premises}
 use Rattle.model.specs.Derivation.{ruleAt, deriveAll, derive}
 use Rattle.model.specs.declared.Refusal.{Refusal}
 use Rattle.model.specs.declared.Refusal.the-variants.{UnfitRule, DeepDerivation}
-use Rattle.terms.specs.Workspace.{tableBase, Same}
-use Rattle.terms.specs.Table.{place, Formed, Space}
+use Rattle.terms.specs.Workspace.{Same}
+use Rattle.terms.specs.Table.{place, Space}
 use Rattle.terms.proofs.Frames.{same-refl, same-trans, same-within}
-use Rattle.terms.proofs.Table.{formed-same}
-use Rattle.derivation.specs.Parts.{claimOf, ClaimBelow}
-use Rattle.derivation.specs.Plan.{atomIn, ofOne, ofTwo, ofThree, premisesOf, PremiseBelow}
+use Rattle.derivation.specs.Parts.{claimOf}
+use Rattle.derivation.specs.Plan.{atomIn, ofOne, ofTwo, ofThree, premisesOf}
 use Rattle.derivation.specs.Regions.{RegionWords}
 use Rattle.derivation.specs.Deriving.{Judged, Prepared, Derivable, applied, refusedOf, PremiseWithin, Applies, derivedOf, Onward, Derives}
 use Rattle.derivation.specs.declared.Claim.{Claim}

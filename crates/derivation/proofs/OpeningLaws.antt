@@ -1,7 +1,7 @@
 -- Laws of reading a rule: one for each way out. Assumes nothing.
 use mathlib.Core.Path.{_≡_, refl, sym, ap, subst, _∙_}
 use mathlib.Core.Logic.{⊎-elim, _⊎_}
-use mathlib.Core.Bool.{Bool, true, false, _&&_, _||_}
+use mathlib.Core.Bool.{true, false, _&&_, _||_}
 use mathlib.Core.Option.{Option, none, some}
 use mathlib.Core.List.{List, [], _∷_}
 use Prim.Native.Nat.{ℕ, zero, suc, _+_, _-_, _<_, _≤_}
@@ -10,22 +10,20 @@ use native.Mathlib.Omega.{arith}
 use native.Mathlib.Decide.{decLt}
 use lib.Dec.{eqb, leb, lit<}
 use lib.ListN.{length, getD, getElem?}
-use borrow.Author.Tests.{eq-eqb, ne-eqb, le-leb, lt-leb}
+use borrow.Author.Tests.{ne-eqb, le-leb, lt-leb}
 use denote.Enum.Declared.{tagOf as variant, declared}
-use Rattle.model.specs.Result.{Result, stop, value, _>>=_, check, found, stopAs}
+use Rattle.model.specs.Result.{stop, value, _>>=_, check, stopAs}
 use Rattle.model.specs.Word.{le16}
 use Rattle.model.specs.Term.{Term}
-use Rattle.model.specs.Field.{ReadError, missing, fault, byteAt, halfAt}
+use Rattle.model.specs.Field.{byteAt, halfAt}
 use Rattle.model.specs.Expression.{expressionAt, mostNodes}
-use Rattle.model.specs.Goals.{registerVariables}
 use Rattle.model.specs.Rule.{Rule, Format, plain, with-index, with-term, with-region, rules}
 use Rattle.model.specs.Derivation.{proofRefusal, proofField, ruleAt}
 use Rattle.model.specs.declared.Refusal.{Refusal}
 use Rattle.model.specs.declared.Refusal.the-variants.{ProofExhausted, UnfitRule, BadArgument}
 use Rattle.model.proofs.Lists.{Every, empty, _&_}
-use Rattle.terms.specs.Workspace.{Same}
 use Rattle.terms.specs.Table.{place, termAt, Formed}
-use Rattle.terms.specs.Reader.{expressionAnswer, Ready, Grown, ExpressionRead}
+use Rattle.terms.specs.Reader.{expressionAnswer, Ready, ExpressionRead}
 use Rattle.terms.specs.declared.reader.Parse.{Parse}
 use Rattle.terms.specs.declared.reader.Parse.the-variants.{Term as Found, Missing, Fault}
 use Rattle.terms.proofs.reader.Parse.{enum as parse-enum}
@@ -33,10 +31,9 @@ use Rattle.terms.proofs.Table.{formed-less}
 use Rattle.terms.proofs.Frames.{same-refl}
 use Rattle.terms.proofs.Building.{Refused as NoTerm, no-term}
 use Rattle.terms.proofs.Substitution.{expression-self}
-use Rattle.derivation.specs.Opening.{formOf, ruleIn, ruleOf, formOfNumber, refusalOf, openedOf, Begun, registerNodes, Opening, topOf, Opens}
+use Rattle.derivation.specs.Opening.{formOf, ruleIn, ruleOf, refusalOf, Begun, registerNodes, Opening, Opens}
 use Rattle.derivation.specs.declared.opening.Form.{Form}
 use Rattle.derivation.specs.declared.opening.Form.the-variants.{Plain, Index, Argument, Region, Unknown}
-use Rattle.derivation.specs.declared.opening.Opened.{Opened}
 use Rattle.derivation.specs.declared.opening.Opened.the-variants.{Rule as OpenRule, Refused}
 use Rattle.derivation.proofs.opening.Form.{enum}
 use Rattle.derivation.proofs.PartLaws.{neither}
@@ -57,6 +54,18 @@ past-end : {A : Type 0} (l : List A) (n : ℕ) → length l ≤ n → getElem? l
 past-end [] n h = refl
 past-end (x ∷ l) zero h = absurd (omega arith)
 past-end (x ∷ l) (suc n) h = past-end l n (omega arith)
+
+-- the tests of a rule's number
+formOfNumber : ℕ → Form
+formOfNumber n =
+    elim (eqb n 0) [
+      | true ↦ Index
+      | false ↦
+          elim (leb 5 n && leb n 8 || eqb n 24) [
+            | true ↦ Argument
+            | false ↦ elim (leb 22 n && leb n 23) [ true ↦ Region | false ↦ elim (leb n 24) [ true ↦ Plain | false ↦ Unknown ] ]
+          ]
+    ]
 
 abbrev Formats : ℕ → Type 0
 Formats n = formOfNumber n ≡ formOf (getElem? rules n)

@@ -1,7 +1,7 @@
 -- Laws of claims and terms taken apart: one for each way out. Assumes nothing.
 use mathlib.Core.Path.{_≡_, refl, sym, _∙_}
 use mathlib.Core.Logic.{⊎-elim, _⊎_}
-use mathlib.Core.Bool.{Bool, true, false, _&&_}
+use mathlib.Core.Bool.{Bool, false, _&&_}
 use mathlib.Core.List.{List}
 use Prim.Native.Nat.{ℕ, suc, _<_}
 use native.Mathlib.Omega.{arith}
@@ -26,7 +26,7 @@ use Rattle.derivation.specs.declared.Claim.the-variants.{Atom, Readable,
 use Rattle.derivation.specs.declared.parts.Pair.{Pair}
 use Rattle.derivation.specs.declared.parts.Pair.the-variants.{Nodes, Misfit}
 use Rattle.derivation.specs.declared.parts.Quadruple.{Quadruple}
-use Rattle.derivation.specs.declared.parts.Quadruple.the-variants.{Nodes as FourNodes, Misfit as NoNodes}
+use Rattle.derivation.specs.declared.parts.Quadruple.the-variants.{Misfit as NoNodes}
 use Rattle.derivation.proofs.Claim.{enum as claim-enum}
 
 -- ---- a value that is none of the variants that are left

@@ -1,5 +1,5 @@
 -- Laws of the rules: one for each way out of the code. Assumes nothing.
-use mathlib.Core.Path.{_≡_, refl, sym, ap, ap₂, subst, _∙_}
+use mathlib.Core.Path.{_≡_, refl, sym, ap, subst, _∙_}
 use mathlib.Core.Logic.{_⊎_}
 use mathlib.Core.Bool.{Bool, true, false, _&&_}
 use mathlib.Core.Option.{Option, none, some}
@@ -13,7 +13,7 @@ use Rattle.model.specs.Term.{Term, constant, variable, sum, difference, eqTerm,
 use Rattle.model.specs.Atom.{Atom, compares, holds, eqAtom}
 use Rattle.model.specs.Policy.{Policy}
 use Rattle.model.specs.Goals.{Goal, Claim as Claimed}
-use Rattle.model.specs.Rule.{Rule, atomOf, sidesOf, readableOf, writableOf, sumOf, differenceOf, operandsOf, regionPremises, premises}
+use Rattle.model.specs.Rule.{atomOf, sidesOf, readableOf, writableOf, sumOf, differenceOf, regionPremises, premises}
 use Rattle.model.specs.Rule.{assumption, evaluation, congruence, linear, zero-at-most, sum-monotone, difference-monotone, successor-at-most, below-successor, sum-no-overflow, less-of-at-most, in-readable-region, in-writable-region, contradiction}
 use Rattle.model.specs.Linear.{sameForm}
 use Rattle.model.proofs.Gives.{gives-value}
@@ -22,7 +22,6 @@ use Rattle.model.specs.declared.Comparison.the-variants.{Equal, Unequal, Less, 
 use Rattle.terms.specs.Workspace.{workspaceWords, mostAssumptions, tableBase, Same}
 use Rattle.terms.specs.Table.{place, termAt, Formed, Space, Put}
 use Rattle.terms.specs.Closed.{valueIf, closedValue}
-use Rattle.terms.specs.declared.Closed.{Closed}
 use Rattle.terms.specs.declared.Closed.the-variants.{Value, Open}
 use Rattle.assumptions.specs.Area.{entryOf, atomIn as entryAtom, listed, Listed}
 use Rattle.assumptions.proofs.Laws.{listed-at, listed-past}
@@ -36,7 +35,7 @@ use Rattle.derivation.proofs.PartLaws.{Access, neither}
 use Rattle.derivation.proofs.BoundLaws.{sides-bounded}
 use Rattle.derivation.proofs.Claim.{enum as claim-enum}
 use Rattle.derivation.specs.Parts.{claimOf, ClaimBelow, Linear, Sides, Operands, FourOperands}
-use Rattle.derivation.specs.Plan.{premise, blank, plan, atomIn, PremiseBelow, Grows, Planned, Anywhere, Assuming, asks, always, reflexivePremises, symmetricPremises, throughPremises, otherPremises, inRegion}
+use Rattle.derivation.specs.Plan.{premise, blank, plan, atomIn, Grows, Planned, Anywhere, Assuming, asks, always, reflexivePremises, symmetricPremises, throughPremises, otherPremises, inRegion}
 use Rattle.derivation.specs.Regions.{regionIn, regionsFrom, regionsOf, may, Over}
 use Rattle.derivation.specs.declared.Claim.{Claim}
 use Rattle.derivation.specs.declared.Claim.the-variants.{Atom as AtomClaim, Readable, Writable}

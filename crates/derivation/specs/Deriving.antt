@@ -76,6 +76,7 @@ abbrev pub stepOf : List ℕ → Step → Result Refusal (List Atom × ℕ)
 stepOf us (Premises p next) = value (premisesOf us p, next)
 stepOf us (RefusedStep f) = stop f
 
+-- the refusal that a step is; where it is none, its position
 abbrev pub refusedOf : Step → Derived
 refusedOf (Premises p next) = Next next
 refusedOf (RefusedStep f) = Refused f
@@ -95,16 +96,19 @@ pub record Standing (bytes us : List ℕ) (n top at : ℕ) (p : Plan) (next : �
   pub third : 2 < p .count → PremiseWithin us (p .top) n (p .third)
   pub onward : (at < next) × (next ≤ length bytes)
 
+-- the same of a step that has premises
 abbrev pub StepStanding : (bytes us : List ℕ) → (n top at : ℕ) → Step → Type 0
 StepStanding bytes us n top at (Premises p next) = Standing bytes us n top at p next
 StepStanding bytes us n top at (RefusedStep f) = Unit {0}
 
+-- the step is the definition's, and every word below the top is kept
 pub record Applies (bytes words ws us : List ℕ) (scope : Scope) (top : ℕ) (claim : Claim) (at : ℕ) (r : Step) : Type 0 where
   pub says : (policy : Policy) (g : Goal) → Judged words ws scope policy g → stepOf us r ≡ applied bytes policy g (claimOf ws claim) at
   pub kept : Same 0 (place top) ws us
   pub standing : StepStanding bytes us (scope .variables) top at r
 
 -- ---- derivations
+-- an answer as the definition gives it
 abbrev pub derivedOf : Derived → Result Refusal ℕ
 derivedOf (Next q) = value q
 derivedOf (Refused f) = stop f

@@ -1,10 +1,8 @@
 -- A rule read from the proof, in terms of the term table. Assumes nothing.
 use mathlib.Core.Path.{_≡_}
-use mathlib.Core.Bool.{true, false, _&&_, _||_}
 use mathlib.Core.Option.{Option, none, some}
 use mathlib.Core.List.{List, [], _∷_}
 use Prim.Native.Nat.{ℕ, _+_, _<_, _≤_}
-use lib.Dec.{eqb, leb}
 use lib.ListN.{length, getD, getElem?}
 use Rattle.model.specs.Result.{Result, stop, value}
 use Rattle.model.specs.Expression.{mostNodes, registerCount}
@@ -42,18 +40,6 @@ ruleIn us v (some (with-region rule)) = rule v
 -- the rule of a number
 unfoldable pub ruleOf : List ℕ → (number argument : ℕ) → Rule
 ruleOf us number v = ruleIn us v (getElem? rules number)
-
--- the tests of a rule's number
-unfoldable pub formOfNumber : ℕ → Form
-formOfNumber n =
-    elim (eqb n 0) [
-      | true ↦ Index
-      | false ↦
-          elim (leb 5 n && leb n 8 || eqb n 24) [
-            | true ↦ Argument
-            | false ↦ elim (leb 22 n && leb n 23) [ true ↦ Region | false ↦ elim (leb n 24) [ true ↦ Plain | false ↦ Unknown ] ]
-          ]
-    ]
 
 -- "15: proof exhausted (package length)"; "18: argument faulty"
 abbrev pub refusalOf : Parse → (size : ℕ) → Refusal

@@ -1,7 +1,7 @@
 // Derivations: the rules, and the checker of a derivation in prefix form.
-pub mod opening;
-pub mod parts;
-pub mod rules;
+mod opening;
+mod parts;
+mod rules;
 
 use model::Comparison;
 use model::Refusal;
@@ -48,7 +48,7 @@ pub struct Plan {
 }
 
 // What a rule in the proof comes to: its premises and the position of the first one's derivation, or a refusal.
-pub enum Step {
+enum Step {
     Premises { plan: Plan, next: usize },
     Refused(Refusal),
 }
@@ -98,7 +98,7 @@ fn apply(
     }
 }
 
-// The refusal that a step is.
+// The refusal that a step is; a step with premises is none, and gives its position.
 fn refused(step: Step) -> Derived
     ensures { λ r. ⌜ r ≡ refusedOf step ⌝ }
 {

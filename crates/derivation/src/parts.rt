@@ -4,7 +4,7 @@ use model::Comparison;
 use terms::Node;
 use terms::reader;
 ghost use mathlib.Core.Path.{_≡_};
-ghost use Prim.Native.Nat.{ℕ, suc, _<_, _≤_};
+ghost use Prim.Native.Nat.{suc, _<_, _≤_};
 ghost use lib.ListN.{length};
 ghost use Rattle.model.specs.Term.{constant, eqTerm};
 ghost use Rattle.model.specs.Atom.{compares, eqAtom};

@@ -12,7 +12,7 @@ use terms::Closed;
 ghost use mathlib.Core.Path.{_≡_};
 ghost use mathlib.Core.Bool.{true, false};
 ghost use mathlib.Core.List.{List};
-ghost use Prim.Native.Nat.{ℕ, suc, _<_, _≤_};
+ghost use Prim.Native.Nat.{ℕ, _<_, _≤_};
 ghost use lib.ListN.{length};
 ghost use Rattle.model.specs.Goals.{Claim as Claimed};
 ghost use Rattle.model.specs.Rule.{assumption, evaluation, congruence, linear, zero-at-most, sum-monotone, difference-monotone, successor-at-most, below-successor, sum-no-overflow, less-of-at-most, in-readable-region, in-writable-region, contradiction};
