@@ -1,0 +1,112 @@
+// Symbolic evaluation of a routine: blocks in order, each goal derived as it arises.
+pub mod accesses;
+pub mod assignments;
+pub mod blocks;
+pub mod jumps;
+pub mod paths;
+pub mod regions;
+pub mod walks;
+
+use goals::Judged;
+use goals::Path;
+use goals::Progress;
+use model::Header;
+use model::Refusal;
+use model::Verdict;
+use policy::Policy;
+ghost use mathlib.Core.Path.{_≡_};
+ghost use Rattle.model.specs.Policy.{Policy as ModelPolicy};
+ghost use Rattle.model.specs.Routine.{Routine};
+ghost use Rattle.model.specs.Goals.{traceOf};
+ghost use Rattle.model.specs.Verdict.{refusing, judge};
+ghost use Rattle.goals.specs.Starting.{Workspace};
+ghost use Rattle.evaluation.specs.Setting.{Settled, Stands};
+ghost use Rattle.evaluation.specs.Blocks.{verdictOf};
+
+// What stays fixed: the policy, the package's header, and where the proof starts.
+pub struct Setting {
+    pub policy: Policy,
+    pub header: Header,
+    pub end: usize,
+}
+
+// What comes of an instruction: the path goes on, or has ended, or the refusal and the goals derived by then.
+pub enum MovedAnswer {
+    On(Progress),
+    Ended(Progress),
+    Refused(Refusal, usize),
+}
+
+// The answer, and the path where it goes on.
+pub struct Moved {
+    pub path: Path,
+    pub answer: MovedAnswer,
+}
+
+// What comes of a path's arrival at an index: its goals, if the index is annotated.
+pub enum Arrived {
+    At(Judged),
+    Nowhere,
+}
+
+// A refusal's number and place, and the goals derived by then.
+fn refused(refusal: Refusal, goals: usize) -> Verdict
+    ensures { λ r. ⌜ r ≡ refusing refusal goals ⌝ }
+{
+    Verdict {
+        number: refusals::number(refusal),
+        place: refusals::place(refusal),
+        goals,
+    }
+}
+
+// The answer once all blocks are evaluated: accepted, unless a goal was refused or bytes of the proof are left.
+fn answer(judged: Judged, size: usize) -> Verdict
+    ensures { λ r. ⌜ r ≡ verdictOf judged size ⌝ }
+{
+    match judged {
+        Judged::Next(progress) => {
+            if progress.at == size {
+                return Verdict {
+                    number: 0,
+                    place: 0,
+                    goals: progress.goals,
+                };
+            }
+            refused(Refusal::ProofLeft(progress.at), progress.goals)
+        }
+        Judged::Refused(refusal, derived) => refused(refusal, derived),
+    }
+}
+
+// The answer of a routine that passed checks 7 to 12, under a policy that passed checks 3 to 6: its goals are derived as they arise.
+pub fn evaluate(
+    bytes: &[u8],
+    conditions: &[u8],
+    indexes: &[u32],
+    places: &[u32],
+    setting: Setting,
+    ws: &mut [u32],
+) -> Verdict
+    requires { ⌜ Settled (now bytes) (now conditions) (now indexes) (now places) setting ⌝ }
+    requires { ⌜ Workspace (now ws) ⌝ }
+    ensures { λ r. ⌜ ((policy : ModelPolicy) (routine : Routine) → Stands (now (bytes .entry)) (now (conditions .entry)) (now (places .entry)) setting policy routine → r ≡ judge (now (bytes .entry)) policy (traceOf policy routine) (routine .proof) 0) ⌝ }
+{
+    let policy = setting.policy;
+    let regions = regions::region_words(policy);
+    let start = Progress {
+        at: setting.end,
+        goals: 0,
+    };
+    let judged = blocks::evaluate_blocks(
+        bytes,
+        conditions,
+        &regions,
+        indexes,
+        places,
+        setting,
+        ws,
+        start,
+    );
+    answer(judged, bytes.len())
+}

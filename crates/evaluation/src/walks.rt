@@ -1,0 +1,256 @@
+// The walk along a path, instruction by instruction.
+use crate::Arrived;
+use crate::Moved;
+use crate::MovedAnswer;
+use crate::Setting;
+use crate::accesses;
+use crate::assignments;
+use crate::jumps;
+use crate::paths;
+use assumptions::Assumption;
+use goals::Judged;
+use goals::Path;
+use goals::Progress;
+use model::Comparison;
+use model::Header;
+use model::Instruction;
+use model::Refusal;
+use routine::instructions;
+use routine::instructions::InstructionAnswer;
+ghost use mathlib.Core.Path.{_≡_};
+ghost use Prim.Native.Nat.{_+_, _≤_, _<_};
+ghost use lib.ListN.{getD};
+ghost use Rattle.terms.specs.Table.{termAt};
+ghost use Rattle.routine.specs.Headers.{Fits};
+ghost use Rattle.routine.specs.Code.{Formed};
+ghost use Rattle.goals.specs.Judging.{Reached};
+ghost use Rattle.goals.specs.Walking.{NodeIn};
+ghost use Rattle.evaluation.specs.Setting.{Fixed};
+ghost use Rattle.evaluation.specs.Moves.{RoomFor, Fetched, Advances, Walks};
+
+// A register's number.
+fn register(x: u8) -> usize
+    ensures { λ r. ⌜ r ≡ x ⌝ }
+{
+    x as usize
+}
+
+// A comparison of two registers' terms.
+fn condition(path: Path, kind: Comparison, a: usize, b: usize) -> Assumption
+    requires { ⌜ (a < 16) × (b < 16) ⌝ }
+    ensures { λ r. ⌜ r ≡ record { kind = kind; left = getD (path .registers) a 0; right = getD (path .registers) b 0 } ⌝ }
+{
+    Assumption {
+        kind,
+        left: paths::node(path, a),
+        right: paths::node(path, b),
+    }
+}
+
+// The instruction at an index; checks 8 and 9 have passed it.
+fn fetch(bytes: &[u8], header: Header, index: usize) -> Instruction
+    requires { ⌜ Fits (now bytes) header ⌝ }
+    requires { ⌜ index < header .instructions ⌝ }
+    ensures { λ r. ⌜ Fetched (now (bytes .entry)) header index r ⌝ }
+{
+    let answer = instructions::instruction(bytes, header, index);
+    match answer {
+        InstructionAnswer::Passed(instruction) => instruction,
+        InstructionAnswer::Refused(_) => Instruction::Return,
+    }
+}
+
+// One instruction of a path.
+fn advance(
+    bytes: &[u8],
+    conditions: &[u8],
+    regions: &[u32],
+    indexes: &[u32],
+    places: &[u32],
+    setting: Setting,
+    ws: &mut [u32],
+    credit: usize,
+    path: Path,
+    instruction: Instruction,
+    progress: Progress,
+) -> Moved
+    requires { ⌜ Fixed (now bytes) (now conditions) (now regions) (now indexes) (now places) setting ⌝ }
+    requires { ⌜ RoomFor (now ws) path 1 ⌝ }
+    requires { ⌜ NodeIn (now ws) path credit ⌝ }
+    requires { ⌜ Reached (now bytes) progress ⌝ }
+    requires { ⌜ Formed (setting .header .instructions) instruction ⌝ }
+    ensures { λ r. ⌜ Advances (now (ws .entry)) (now (ws .exit)) (now (bytes .entry)) (now (conditions .entry)) (now (places .entry)) setting (termAt (now (ws .entry)) credit) path instruction progress r ⌝ }
+{
+    let policy = setting.policy;
+    let count = policy.count;
+    match instruction {
+        Instruction::Set { d, i } => assignments::set(ws, path, register(d), i, progress),
+        Instruction::Add { d, a, b } => {
+            assignments::add(ws, path, register(d), register(a), register(b), progress)
+        }
+        Instruction::AddImmediate { d, a, i } => {
+            assignments::add_immediate(ws, path, register(d), register(a), i, progress)
+        }
+        Instruction::Subtract { d, a, b } => {
+            assignments::subtract(ws, path, register(d), register(a), register(b), progress)
+        }
+        Instruction::Load { d, a, i } => {
+            accesses::load(
+                bytes,
+                regions,
+                count,
+                ws,
+                path,
+                register(d),
+                register(a),
+                i,
+                progress,
+            )
+        }
+        Instruction::Store { d: _, a, i } => {
+            accesses::store(bytes, regions, count, ws, path, register(a), i, progress)
+        }
+        Instruction::Jump { i } => {
+            jumps::jump_to(
+                bytes,
+                regions,
+                indexes,
+                places,
+                setting,
+                ws,
+                credit,
+                path,
+                i,
+                progress,
+            )
+        }
+        Instruction::JumpLess { a, b, i } => {
+            let left = register(a);
+            let right = register(b);
+            let taken = condition(path, Comparison::Less, left, right);
+            let opposite = condition(path, Comparison::AtMost, right, left);
+            jumps::branch_to(
+                bytes,
+                regions,
+                indexes,
+                places,
+                setting,
+                ws,
+                credit,
+                path,
+                i,
+                taken,
+                opposite,
+                progress,
+            )
+        }
+        Instruction::JumpEqual { a, b, i } => {
+            let left = register(a);
+            let right = register(b);
+            let taken = condition(path, Comparison::Equal, left, right);
+            let opposite = condition(path, Comparison::Unequal, left, right);
+            jumps::branch_to(
+                bytes,
+                regions,
+                indexes,
+                places,
+                setting,
+                ws,
+                credit,
+                path,
+                i,
+                taken,
+                opposite,
+                progress,
+            )
+        }
+        Instruction::Return => jumps::return_from(
+            conditions,
+            policy.postcondition,
+            policy.postcondition_atoms,
+            bytes,
+            regions,
+            count,
+            ws,
+            credit,
+            path,
+            progress,
+        ),
+    }
+}
+
+// The walk along a path with so many instructions left up to n: its goals, up to its end or the first refusal.
+pub fn walk(
+    bytes: &[u8],
+    conditions: &[u8],
+    regions: &[u32],
+    indexes: &[u32],
+    places: &[u32],
+    setting: Setting,
+    ws: &mut [u32],
+    credit: usize,
+    left: usize,
+    path: Path,
+    progress: Progress,
+) -> Judged
+    requires { ⌜ Fixed (now bytes) (now conditions) (now regions) (now indexes) (now places) setting ⌝ }
+    requires { ⌜ RoomFor (now ws) path left ⌝ }
+    requires { ⌜ NodeIn (now ws) path credit ⌝ }
+    requires { ⌜ Reached (now bytes) progress ⌝ }
+    requires { ⌜ path .counter + left ≡ setting .header .instructions ⌝ }
+    ensures { λ r. ⌜ Walks (now (ws .entry)) (now (ws .exit)) (now (bytes .entry)) (now (conditions .entry)) (now (places .entry)) setting (termAt (now (ws .entry)) credit) left path progress r ⌝ }
+{
+    let header = setting.header;
+    if left == 0 {
+        return Judged::Refused(Refusal::PastLast(header.instructions), progress.goals);
+    }
+    let instruction = fetch(bytes, header, path.counter);
+    let moved = advance(
+        bytes,
+        conditions,
+        regions,
+        indexes,
+        places,
+        setting,
+        ws,
+        credit,
+        path,
+        instruction,
+        progress,
+    );
+    let after = moved.path;
+    let answer = moved.answer;
+    match answer {
+        MovedAnswer::On(next) => {
+            let arrived = jumps::arrive(
+                bytes,
+                regions,
+                indexes,
+                places,
+                setting,
+                ws,
+                credit,
+                after,
+                next,
+            );
+            match arrived {
+                Arrived::At(judged) => judged,
+                Arrived::Nowhere => walk(
+                    bytes,
+                    conditions,
+                    regions,
+                    indexes,
+                    places,
+                    setting,
+                    ws,
+                    credit,
+                    left - 1,
+                    after,
+                    next,
+                ),
+            }
+        }
+        MovedAnswer::Ended(next) => Judged::Next(next),
+        MovedAnswer::Refused(refusal, derived) => Judged::Refused(refusal, derived),
+    }
+}
