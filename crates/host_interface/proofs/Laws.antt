@@ -10,7 +10,10 @@ use Rattle.model.specs.Package.{proofSection, finderAnswer}
 use Rattle.model.specs.Runner.{Run}
 use Rattle.model.specs.declared.Finding.{Finding}
 use Rattle.model.specs.declared.Outcome.{Outcome}
-use Rattle.host_interface.specs.Exported.{RunExported, FindExported}
+use Rattle.model.specs.declared.Verdict.{Verdict}
+use Rattle.model.specs.Verdict.{checkOf, workspaceAfter}
+use Rattle.model.specs.Property.{Safe}
+use Rattle.host_interface.specs.Exported.{CheckExported, RunExported, FindExported}
 
 -- every word of a list, written from the front
 written : (words list : List ℕ) → length list ≡ length words → sets list 0 words ≡ words
@@ -19,6 +22,17 @@ written words list h =
 
 pub three : (list : List ℕ) (a b c : ℕ) → length list ≡ 3 → set (set (set list 0 a) 1 b) 2 c ≡ a ∷ b ∷ c ∷ []
 three list a b c h = written (a ∷ b ∷ c ∷ []) list h
+
+pub check-left : (before policy routine after answer : List ℕ) (v : Verdict)
+    → v ≡ checkOf (length before) policy routine → after ≡ workspaceAfter before → (v .number ≡ 0 → Safe policy routine)
+    → answer ≡ v .number ∷ v .place ∷ v .goals ∷ []
+    → CheckExported before policy routine after answer
+check-left before policy routine after answer v e l s w =
+    record {
+      words = w ∙ ap (λ (x : Verdict). x .number ∷ x .place ∷ x .goals ∷ []) e;
+      left = l;
+      safe = λ z. s (ap (λ (x : Verdict). x .number) e ∙ z);
+    }
 
 pub run-left : (run : Run) (outcome : Outcome) (registers memory answer : List ℕ)
     → record { outcome = outcome; registers = registers; memory = memory } ≡ run

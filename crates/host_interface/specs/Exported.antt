@@ -5,6 +5,14 @@ use mathlib.Core.List.{List, [], _∷_}
 use lib.ListN.{length}
 use Rattle.model.specs.Runner.{Run}
 use Rattle.model.specs.Package.{proofSection, finderAnswer}
+use Rattle.model.specs.Verdict.{checkOf, workspaceAfter}
+use Rattle.model.specs.Property.{Safe}
+
+-- the verdict's number, place and goals, what is left of the workspace, and property 3 where the number is 0
+pub record CheckExported (before policy routine after answer : List ℕ) : Type 0 where
+  pub words : answer ≡ checkOf (length before) policy routine .number ∷ checkOf (length before) policy routine .place ∷ checkOf (length before) policy routine .goals ∷ []
+  pub left : after ≡ workspaceAfter before
+  pub safe : checkOf (length before) policy routine .number ≡ 0 → Safe policy routine
 
 -- the run's number, place and steps, and what it leaves in registers and memory
 pub record RunExported (run : Run) (registers memory answer : List ℕ) : Type 0 where

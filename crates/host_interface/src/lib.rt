@@ -7,7 +7,7 @@ ghost use mathlib.Core.List.{[], _∷_};
 ghost use lib.ListN.{length};
 ghost use Rattle.model.specs.Package.{proofSection};
 ghost use Rattle.model.specs.Runner.{runOf};
-ghost use Rattle.host_interface.specs.Exported.{RunExported, FindExported};
+ghost use Rattle.host_interface.specs.Exported.{CheckExported, RunExported, FindExported};
 
 // Three words, at the start of a slice.
 fn put_three(words: &mut [u64], a: u64, b: u64, c: u64)
@@ -17,6 +17,25 @@ fn put_three(words: &mut [u64], a: u64, b: u64, c: u64)
     words[0] = a;
     words[1] = b;
     words[2] = c;
+}
+
+// loader::check: number, place and goals go into `answer`.
+#[no_mangle]
+pub extern "C" fn pcc_check(
+    workspace: &mut [u32],
+    policy: &[u8],
+    routine: &[u8],
+    answer: &mut [u64; 3],
+)
+    ensures { λ _. ⌜ CheckExported (now (workspace .entry)) (now (policy .entry)) (now (routine .entry)) (now (workspace .exit)) (now (answer .exit)) ⌝ }
+{
+    let verdict = loader::check(workspace, policy, routine);
+    put_three(
+        answer,
+        verdict.number as u64,
+        verdict.place as u64,
+        verdict.goals as u64,
+    );
 }
 
 // loader::run: number, place and steps go into `answer`.

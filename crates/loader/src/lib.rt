@@ -1,11 +1,25 @@
 // The loader's public face.
 use model::Finding;
 use model::Outcome;
+use model::Verdict;
 ghost use mathlib.Core.Path.{_≡_};
 ghost use Prim.Native.Nat.{_+_};
 ghost use denote.Ref.{ptr};
+ghost use lib.ListN.{length};
 ghost use Rattle.model.specs.Package.{proofSection, finderAnswer};
 ghost use Rattle.model.specs.Runner.{runOf};
+ghost use Rattle.model.specs.Verdict.{checkOf, workspaceAfter};
+ghost use Rattle.model.specs.Property.{Safe};
+
+// Judges a package under a policy, with a workspace of at least 16,384 words: the number, place and goals that the definitions give. The
+// workspace is left all zero; after 1, untouched. Where the answer is 0, property 3 holds of that policy and package.
+pub fn check(workspace: &mut [u32], policy: &[u8], routine: &[u8]) -> Verdict
+    ensures verdict { λ r. ⌜ r ≡ checkOf (length (now (workspace .entry))) (now (policy .entry)) (now (routine .entry)) ⌝ }
+    ensures left { λ r. ⌜ now (workspace .exit) ≡ workspaceAfter (now (workspace .entry)) ⌝ }
+    ensures safe { λ r. ⌜ (r .number ≡ 0 → Safe (now (policy .entry)) (now (routine .entry))) ⌝ }
+{
+    checker::check(workspace, policy, routine)
+}
 
 // Runs a routine under a policy on lent registers and memory, for at most `budget` steps: the number, place and steps that the
 // definitions give, and in the registers and memory the machine's state after exactly those steps.
