@@ -13,8 +13,8 @@ use denote.Enum.Declared.{tagOf, declared}
 use Rattle.model.specs.Word.{le16, le32}
 use Rattle.model.specs.Result.{value, _>>=_}
 use Rattle.model.specs.Term.{Term, constant, variable, sum, difference}
-use Rattle.model.specs.Expression.{Form, four-byte-constant, two-byte-variable, forms, Nodes, nodesAt}
-use Rattle.terms.specs.Workspace.{tableBase, Same}
+use Rattle.model.specs.Expression.{Form, four-byte-constant, two-byte-variable, two-expressions, forms, Nodes, nodesAt}
+use Rattle.terms.specs.Workspace.{mostVariables, tableBase, Same}
 use Rattle.terms.specs.Table.{place, termAt, Formed, Space, Put}
 use Rattle.terms.specs.Reader.{mapped, nodesOver, variableTerm, operationOf, nodesAnswer, topAfter, leftAfter, Within, Ready, Grown, NodeRead, NodesRead}
 use Rattle.terms.specs.declared.reader.Parse.{Parse}
@@ -105,7 +105,7 @@ module _ {ws registers bytes : List ℕ} {end limit at left top : ℕ} (y : Read
 
 -- ---- the ways out of `read`
 -- with a node left, the depth is one more than some other
-by-depth : {o : Nodes} (σ : ℕ → Term) (bytes : List ℕ) (end limit left at : ℕ) → left ≢ 0 → ((d : ℕ) → left - 1 ≤ d → o ≡ nodesOver σ (nodesAt bytes end limit (suc d) left at)) → (d : ℕ) → left ≤ d → o ≡ nodesOver σ (nodesAt bytes end limit d left at)
+by-depth : {o : Nodes} (σ : ℕ → Term) (bytes : List ℕ) (end limit left at : ℕ) → 0 < left → ((d : ℕ) → left - 1 ≤ d → o ≡ nodesOver σ (nodesAt bytes end limit (suc d) left at)) → (d : ℕ) → left ≤ d → o ≡ nodesOver σ (nodesAt bytes end limit d left at)
 by-depth σ bytes end limit left at s k zero l = absurd (omega arith)
 by-depth σ bytes end limit left at s k (suc d) l = k d (omega arith)
 
@@ -118,11 +118,11 @@ pair-refused operation y us (Fault p) o = refl
 abbrev secondOf : (Term → Term → Term) → Term → Nodes → Nodes
 secondOf operation s y = y >>= (λ z. value (operation s (z .0), z .1, z .2))
 
-second-refused : (operation : Term → Term → Term) (s : Term) (us : List ℕ) (r : Parse) → Refused r → nodesAnswer us r ≡ secondOf operation s (nodesAnswer us r)
+other-refused : (operation : Term → Term → Term) (s : Term) (us : List ℕ) (r : Parse) → Refused r → nodesAnswer us r ≡ secondOf operation s (nodesAnswer us r)
 unfolding _>>=_
-second-refused operation s us (Found a n l t) o = no-term o
-second-refused operation s us Missing o = refl
-second-refused operation s us (Fault p) o = refl
+other-refused operation s us (Found a n l t) o = no-term o
+other-refused operation s us Missing o = refl
+other-refused operation s us (Fault p) o = refl
 
 module _ {ws registers bytes : List ℕ} {end limit at left top : ℕ} (y : Ready ws registers top left) where
   pub read-missing : end ≤ at → NodesRead ws ws registers bytes end limit at left top Missing
@@ -134,7 +134,7 @@ module _ {ws registers bytes : List ℕ} {end limit at left top : ℕ} (y : Read
     unfolding mapped
     read-spent e = record { answer = λ d l. ap (nodesOver (variableTerm ws registers)) (nodes-spent bytes end limit left at h d e); grown = grown-fault (y .formed) at }
 
-    module _ (s : left ≢ 0) where
+    module _ (s : 0 < left) where
       pub read-unknown : 4 ≤ getD bytes at 0 → NodesRead ws ws registers bytes end limit at left top (Fault at)
       unfolding mapped
       read-unknown u = record {
@@ -149,55 +149,8 @@ module _ {ws registers bytes : List ℕ} {end limit at left top : ℕ} (y : Read
         grown = a .grown;
       }
 
-      module _ (z : getD bytes at 0 ≢ 0) (o : getD bytes at 0 ≢ 1) (u : getD bytes at 0 < 4) where
-        -- what is read, once the first operand is
-        from-first : (d : ℕ) → left - 1 ≤ d → {us : List ℕ} {r : Parse} → NodesRead ws us registers bytes end limit (at + 1) (left - 1) top r
-            → pairOf (operationOf (getD bytes at 0)) (nodesAnswer us r) (λ l q. nodesOver (variableTerm ws registers) (nodesAt bytes end limit d l q)) ≡ nodesOver (variableTerm ws registers) (nodesAt bytes end limit (suc d) left at)
-        from-first d l a =
-            let σ : ℕ → Term = variableTerm ws registers in
-            let tag : ℕ = getD bytes at 0 in
-            ap (λ x. pairOf (operationOf tag) x (λ l q. nodesOver σ (nodesAt bytes end limit d l q))) (a .answer d l)
-            ∙ sym (pair-over σ (operationOf tag) (operation-keeps tag σ) (nodesAt bytes end limit d (left - 1) (at + 1)) (λ l q. nodesAt bytes end limit d l q))
-            ∙ ap (nodesOver σ) (node-pair bytes end limit (λ l q. nodesAt bytes end limit d l q) (operationOf tag) left at)
-            ∙ ap (nodesOver σ) (nodes-form bytes end limit left at h d s (form-pair tag (omega arith) u))
-
-        pub read-first-refused : {us : List ℕ} {r : Parse} → Refused r → NodesRead ws us registers bytes end limit (at + 1) (left - 1) top r → NodesRead ws us registers bytes end limit at left top r
-        read-first-refused {us} {r} q a = record {
-          answer = by-depth (variableTerm ws registers) bytes end limit left at s (λ d l. pair-refused (operationOf (getD bytes at 0)) _ us r q ∙ from-first d l a);
-          grown = grown-refused r q (omega arith) (same-refl 0 (place top) ws) (a .grown);
-        }
-
-        module _ {us vs : List ℕ} {a1 n1 l1 t1 : ℕ} {r : Parse} (p : NodesRead ws us registers bytes end limit (at + 1) (left - 1) top (Found a1 n1 l1 t1)) (q : NodesRead us vs registers bytes end limit n1 l1 t1 r) where
-          -- what is read, once the second operand is: its variables have the terms from before the first
-          from-second : (d : ℕ) → left - 1 ≤ d → secondOf (operationOf (getD bytes at 0)) (termAt us a1) (nodesAnswer vs r) ≡ nodesOver (variableTerm ws registers) (nodesAt bytes end limit (suc d) left at)
-          unfolding _>>=_
-          from-second d l = rw (q .answer d (omega (arith, p .grown .few, p .grown .grows)), variable-same registers top (y .held) (p .grown .kept)) (from-first d l p)
-
-          pub read-second-refused : Refused r → NodesRead ws vs registers bytes end limit at left top r
-          read-second-refused x = record {
-            answer = by-depth (variableTerm ws registers) bytes end limit left at s (λ d l. second-refused (operationOf (getD bytes at 0)) (termAt us a1) vs r x ∙ from-second d l);
-            grown = grown-refused r x (p .grown .grows) (p .grown .kept) (q .grown);
-          }
-
-        pub read-pair : {us vs xs : List ℕ} {a1 n1 l1 t1 a2 n2 l2 t2 : ℕ} → NodesRead ws us registers bytes end limit (at + 1) (left - 1) top (Found a1 n1 l1 t1) → NodesRead us vs registers bytes end limit n1 l1 t1 (Found a2 n2 l2 t2)
-            → Put vs xs t2 (operationOf (getD bytes at 0) (termAt vs a1) (termAt vs a2)) → NodesRead ws xs registers bytes end limit at left top (Found t2 n2 l2 (t2 + 1))
-        unfolding _>>=_
-        read-pair {us} {vs} {xs} {a1} {n1} {l1} {t1} {a2} {n2} {l2} {t2} p q w =
-            let one : termAt vs a1 ≡ termAt us a1 = term-same t1 (same-within tableBase (place t1) (omega arith) (omega arith) (q .grown .kept)) a1 (p .grown .within .0) in
-            let is : termAt xs t2 ≡ operationOf (getD bytes at 0) (termAt us a1) (termAt vs a2) = rw (← one) (w .is) in
-            record {
-              answer = by-depth (variableTerm ws registers) bytes end limit left at s (λ d l. ap (λ t. value (t, n2, l2)) is ∙ from-second p q d l);
-              grown = record {
-                kept = kept-before (p .grown .grows) (p .grown .kept) (kept-before (q .grown .grows) (q .grown .kept) (w .kept));
-                formed = subst (Formed xs) (sym (add-one t2)) (w .formed);
-                within = (omega arith, q .grown .within .1);
-                grows = omega (arith, p .grown .grows, q .grown .grows);
-                few = omega (arith, p .grown .few, q .grown .few);
-              };
-            }
-
--- ---- what the two calls and the new node ask
-pub told : {ws us registers bytes : List ℕ} {end limit at left top : ℕ} {r q : Parse} → NodesRead ws us registers bytes end limit at left top r → r ≡ q → NodesRead ws us registers bytes end limit at left top q
+-- ---- an answer that is known, and room that is left
+told : {ws us registers bytes : List ℕ} {end limit at left top : ℕ} {r q : Parse} → NodesRead ws us registers bytes end limit at left top r → r ≡ q → NodesRead ws us registers bytes end limit at left top q
 told {ws} {us} {registers} {bytes} {end} {limit} {at} {left} {top} a e = subst (NodesRead ws us registers bytes end limit at left top) e a
 
 pub ready-fewer : {ws registers : List ℕ} {top left : ℕ} (l : ℕ) → l ≤ left → Ready ws registers top left → Ready ws registers top l
@@ -207,19 +160,93 @@ ready-fewer l h y = record { formed = y .formed; space = record { words = y .spa
 pub ready-after : {ws us registers : List ℕ} {top left : ℕ} (t l : ℕ) → top ≤ t → t + l ≤ top + left → Formed us t → length us ≡ length ws → Ready ws registers top left → Ready us registers t l
 ready-after t l g h f e y = record { formed = f; space = record { words = omega (arith, y .space .words); fits = omega (arith, y .space .fits) }; held = λ v b. omega (arith, y .held v b) }
 
-module _ {ws us registers : List ℕ} {end top left a1 n1 l1 t1 : ℕ} (y : Ready ws registers top left) (s : left ≢ 0) (g : Grown ws us end top (left - 1) (Found a1 n1 l1 t1)) (e : length us ≡ length ws) where
-  pub ready-second : Ready us registers t1 l1
-  ready-second = ready-after t1 l1 (g .grows) (omega (arith, g .few)) (g .formed) e y
+-- ---- the measures, by the nodes left: `read` hands on as many to `read_pair`, which hands on fewer
+abbrev pub readMeasure : ℕ → ℕ
+readMeasure left = left + left + 1
 
-  pub left-falls : l1 < left
-  left-falls = omega (arith, g .few, g .grows)
+abbrev pub pairMeasure : ℕ → ℕ
+pairMeasure left = left + left
 
-  module _ {vs : List ℕ} {a2 n2 l2 t2 : ℕ} (k : Grown us vs end t1 l1 (Found a2 n2 l2 t2)) (d : length vs ≡ length us) where
-    pub pair-space : Space vs t2 1
-    pair-space = record { words = omega (arith, y .space .words); fits = omega (arith, y .space .fits, g .few, k .few) }
+-- ---- `read_pair`: what it is given, what its calls ask, and its ways out
+abbrev pub ReadAsked : (ws registers bytes : List ℕ) (end limit left top : ℕ) → Type 0
+ReadAsked ws registers bytes end limit left top = ((end ≤ length bytes) × (limit ≤ mostVariables)) × Ready ws registers top left
 
-    pub pair-parts : (a1 < t2) × (a2 < t2)
-    pair-parts = (omega (arith, g .within .0, k .grows), k .within .0)
+abbrev pub PairAsked : (ws registers bytes : List ℕ) (end limit at left top tag : ℕ) → Type 0
+PairAsked ws registers bytes end limit at left top tag = ((end ≤ length bytes) × (limit ≤ mostVariables)) × (Ready ws registers top left × (((at < end) × (0 < left)) × ((tag ≡ getD bytes at 0) × (1 < tag) × (tag < 4))))
+
+module _ {ws registers : List ℕ} (bytes : List ℕ) {end limit at left top tag : ℕ} (y : PairAsked ws registers bytes end limit at left top tag) where
+  ready : Ready ws registers top left
+  ready = y .1 .0
+
+  some-left : 0 < left
+  some-left = y .1 .1 .0 .1
+
+  is-pair : getElem? forms (getD bytes at 0) ≡ some (two-expressions (operationOf tag))
+  is-pair = let e : (tag ≡ getD bytes at 0) × (1 < tag) × (tag < 4) = y .1 .1 .1 in ap (getElem? forms) (sym (e .0)) ∙ form-pair tag (e .1) (e .2)
+
+  -- what is read, once the first operand is
+  from-first : (d : ℕ) → left - 1 ≤ d → {us : List ℕ} {r : Parse} → NodesRead ws us registers bytes end limit (at + 1) (left - 1) top r
+      → pairOf (operationOf tag) (nodesAnswer us r) (λ l q. nodesOver (variableTerm ws registers) (nodesAt bytes end limit d l q)) ≡ nodesOver (variableTerm ws registers) (nodesAt bytes end limit (suc d) left at)
+  from-first d l a =
+      let σ : ℕ → Term = variableTerm ws registers in
+      ap (λ x. pairOf (operationOf tag) x (λ l q. nodesOver σ (nodesAt bytes end limit d l q))) (a .answer d l)
+      ∙ sym (pair-over σ (operationOf tag) (operation-keeps tag σ) (nodesAt bytes end limit d (left - 1) (at + 1)) (λ l q. nodesAt bytes end limit d l q))
+      ∙ ap (nodesOver σ) (node-pair bytes end limit (λ l q. nodesAt bytes end limit d l q) (operationOf tag) left at)
+      ∙ ap (nodesOver σ) (nodes-form bytes end limit left at (y .1 .1 .0 .0) d some-left is-pair)
+
+  pub first-asked : {t : ℕ} → pairMeasure left ≡ t → (readMeasure (left - 1) < t) × ReadAsked ws registers bytes end limit (left - 1) top
+  first-asked e = (omega (arith, some-left), (y .0, ready-fewer (left - 1) (omega arith) ready))
+
+  pub first-refused : {us : List ℕ} {r : Parse} (q : Parse) → Refused q → NodesRead ws us registers bytes end limit (at + 1) (left - 1) top r → r ≡ q → NodesRead ws us registers bytes end limit at left top q
+  first-refused {us} q o x e =
+      let a : NodesRead ws us registers bytes end limit (at + 1) (left - 1) top q = told x e in
+      record {
+        answer = by-depth (variableTerm ws registers) bytes end limit left at some-left (λ d l. pair-refused (operationOf tag) _ us q o ∙ from-first d l a);
+        grown = grown-refused q o (omega arith) (same-refl 0 (place top) ws) (a .grown);
+      }
+
+  module _ {us : List ℕ} {f : Parse} {a1 n1 l1 t1 : ℕ} (x : NodesRead ws us registers bytes end limit (at + 1) (left - 1) top f) (e : f ≡ Found a1 n1 l1 t1) (k : length us ≡ length ws) where
+    first : NodesRead ws us registers bytes end limit (at + 1) (left - 1) top (Found a1 n1 l1 t1)
+    first = told x e
+
+    pub second-asked : {t : ℕ} → pairMeasure left ≡ t → (readMeasure l1 < t) × ReadAsked us registers bytes end limit l1 t1
+    second-asked m = (omega (arith, some-left, first .grown .few, first .grown .grows), (y .0, ready-after t1 l1 (first .grown .grows) (omega (arith, first .grown .few)) (first .grown .formed) k ready))
+
+    -- what is read, once the second operand is: its variables have the terms from before the first
+    from-second : (d : ℕ) → left - 1 ≤ d → {vs : List ℕ} {r : Parse} → NodesRead us vs registers bytes end limit n1 l1 t1 r → secondOf (operationOf tag) (termAt us a1) (nodesAnswer vs r) ≡ nodesOver (variableTerm ws registers) (nodesAt bytes end limit (suc d) left at)
+    unfolding _>>=_
+    from-second d l q = rw (q .answer d (omega (arith, first .grown .few, first .grown .grows)), variable-same registers top (ready .held) (first .grown .kept)) (from-first d l first)
+
+    pub second-refused : {vs : List ℕ} {r : Parse} (q : Parse) → Refused q → NodesRead us vs registers bytes end limit n1 l1 t1 r → r ≡ q → NodesRead ws vs registers bytes end limit at left top q
+    second-refused {vs} q o z i =
+        let b : NodesRead us vs registers bytes end limit n1 l1 t1 q = told z i in
+        record {
+          answer = by-depth (variableTerm ws registers) bytes end limit left at some-left (λ d l. other-refused (operationOf tag) (termAt us a1) vs q o ∙ from-second d l b);
+          grown = grown-refused q o (first .grown .grows) (first .grown .kept) (b .grown);
+        }
+
+    module _ {vs : List ℕ} {g : Parse} {a2 n2 l2 t2 : ℕ} (z : NodesRead us vs registers bytes end limit n1 l1 t1 g) (i : g ≡ Found a2 n2 l2 t2) where
+      second : NodesRead us vs registers bytes end limit n1 l1 t1 (Found a2 n2 l2 t2)
+      second = told z i
+
+      pub put-asked : length vs ≡ length us → Formed vs t2 × (Space vs t2 1 × (((a1 < t2) × (a2 < t2)) × ((1 < tag) × (tag < 4))))
+      put-asked m = (second .grown .formed, (record { words = omega (arith, ready .space .words); fits = omega (arith, ready .space .fits, some-left, first .grown .few, second .grown .few) }, ((omega (arith, first .grown .within .0, second .grown .grows), second .grown .within .0), (y .1 .1 .1 .1, y .1 .1 .1 .2))))
+
+      pub pair-read : {xs : List ℕ} → Put vs xs t2 (operationOf tag (termAt vs a1) (termAt vs a2)) → NodesRead ws xs registers bytes end limit at left top (Found t2 n2 l2 (t2 + 1))
+      unfolding _>>=_
+      pair-read {xs} w =
+          let one : termAt vs a1 ≡ termAt us a1 = term-same t1 (same-within tableBase (place t1) (omega arith) (omega arith) (second .grown .kept)) a1 (first .grown .within .0) in
+          let is : termAt xs t2 ≡ operationOf tag (termAt us a1) (termAt vs a2) = rw (← one) (w .is) in
+          record {
+            answer = by-depth (variableTerm ws registers) bytes end limit left at some-left (λ d l. ap (λ t. value (t, n2, l2)) is ∙ from-second d l second);
+            grown = record {
+              kept = kept-before (first .grown .grows) (first .grown .kept) (kept-before (second .grown .grows) (second .grown .kept) (w .kept));
+              formed = subst (Formed xs) (sym (add-one t2)) (w .formed);
+              within = (omega arith, second .grown .within .1);
+              grows = omega (arith, first .grown .grows, second .grown .grows);
+              few = omega (arith, some-left, first .grown .few, second .grown .few);
+            };
+          }
 
 -- ---- the ways out of `put_pair`
 module _ {ws us : List ℕ} {top : ℕ} {s t : Term} (tag : ℕ) where

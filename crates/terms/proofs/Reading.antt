@@ -1,6 +1,5 @@
 -- Laws of the model's reading, with a term for each variable: one for each way out of the reader. Assumes nothing.
 use mathlib.Core.Path.{_≡_, refl, ap}
-use mathlib.Core.Logic.{_≢_}
 use mathlib.Core.Option.{none, some}
 use mathlib.Core.List.{List}
 use Prim.Native.Nat.{ℕ, zero, suc, _+_, _-_, _<_, _≤_}
@@ -69,14 +68,14 @@ module _ (bytes : List ℕ) (end limit : ℕ) where
       nodes-spent zero e = rw (le-leb (at + 1) end (omega arith))
       nodes-spent (suc depth) e = rw (le-leb (at + 1) end (omega arith), le-ltb 0 left (omega arith))
 
-      module _ (depth : ℕ) (s : left ≢ 0) where
+      module _ (depth : ℕ) (s : 0 < left) where
         pub nodes-unknown : getElem? forms (getD bytes at 0) ≡ none → stop (fault at) ≡ nodesAt bytes end limit (suc depth) left at
         unfolding nodesAt byteAt _>>=_ check found
-        nodes-unknown e = rw (le-leb (at + 1) end (omega arith), lt-ltb 0 left (omega arith), e)
+        nodes-unknown e = rw (le-leb (at + 1) end (omega arith), lt-ltb 0 left s, e)
 
         pub nodes-form : {form : Form} → getElem? forms (getD bytes at 0) ≡ some form → nodeOf bytes end limit (λ l q. nodesAt bytes end limit depth l q) form left at ≡ nodesAt bytes end limit (suc depth) left at
         unfolding nodesAt byteAt _>>=_ check found
-        nodes-form e = rw (le-leb (at + 1) end (omega arith), lt-ltb 0 left (omega arith), e)
+        nodes-form e = rw (le-leb (at + 1) end (omega arith), lt-ltb 0 left s, e)
 
 -- ---- two expressions, the second where the first ends
 abbrev pub pairOf : (Term → Term → Term) → Nodes → ((left p : ℕ) → Nodes) → Nodes

@@ -2,7 +2,7 @@
 use model::Comparison;
 ghost use mathlib.Core.Path.{_≡_};
 ghost use Prim.Native.Nat.{_+_, _≤_, _<_};
-ghost use lib.ListN.{length};
+ghost use lib.ListN.{length, getD};
 ghost use Rattle.model.specs.Atom.{tagOf};
 ghost use Rattle.model.specs.Expression.{mostNodes, four-byte-constant, two-byte-variable};
 ghost use Rattle.terms.specs.Workspace.{mostVariables};
@@ -117,6 +117,54 @@ fn put_pair(ws: &mut [u32], top: usize, tag: u8, left: usize, right: usize)
     crate::put_difference(ws, top, left, right);
 }
 
+// The sum, for tag 2, or the difference, for tag 3, at `at`: two expressions after the tag.
+fn read_pair(
+    bytes: &[u8],
+    ws: &mut [u32],
+    end: usize,
+    limit: usize,
+    registers: [u32; 16],
+    at: usize,
+    left: usize,
+    top: usize,
+    tag: u8,
+) -> Parse
+    requires { ⌜ (end ≤ length (now bytes)) × (limit ≤ mostVariables) ⌝ }
+    requires { ⌜ Ready (now ws) registers top left ⌝ }
+    requires { ⌜ (at < end) × (0 < left) ⌝ }
+    requires { ⌜ (tag ≡ getD (now bytes) at 0) × (1 < tag) × (tag < 4) ⌝ }
+    ensures { λ r. ⌜ NodesRead (now (ws .entry)) (now (ws .exit)) registers (now (bytes .entry)) end limit at left top r ⌝ }
+{
+    let start = at + 1;
+    match read(bytes, ws, end, limit, registers, start, left - 1, top) {
+        Parse::Missing => Parse::Missing,
+        Parse::Fault(p) => Parse::Fault(p),
+        Parse::Term {
+            number: a,
+            next: middle,
+            left: fewer,
+            top: above,
+        } => match read(bytes, ws, end, limit, registers, middle, fewer, above) {
+            Parse::Missing => Parse::Missing,
+            Parse::Fault(p) => Parse::Fault(p),
+            Parse::Term {
+                number: b,
+                next: after,
+                left: last,
+                top: high,
+            } => {
+                put_pair(ws, high, tag, a, b);
+                Parse::Term {
+                    number: high,
+                    next: after,
+                    left: last,
+                    top: high + 1,
+                }
+            }
+        },
+    }
+}
+
 // The expression at `at`, of at most `left` nodes, its variables below the limit.
 fn read(
     bytes: &[u8],
@@ -142,36 +190,7 @@ fn read(
     match tag {
         0 => read_constant(bytes, ws, end, limit, registers, at, left, top),
         1 => read_variable(bytes, ws, end, limit, registers, at, left, top),
-        2 | 3 => {
-            let start = at + 1;
-            let first = read(bytes, ws, end, limit, registers, start, left - 1, top);
-            let Parse::Term {
-                number: a,
-                next: middle,
-                left: fewer,
-                top: above,
-            } = first
-            else {
-                return first;
-            };
-            let second = read(bytes, ws, end, limit, registers, middle, fewer, above);
-            let Parse::Term {
-                number: b,
-                next: after,
-                left: last,
-                top: high,
-            } = second
-            else {
-                return second;
-            };
-            put_pair(ws, high, tag, a, b);
-            Parse::Term {
-                number: high,
-                next: after,
-                left: last,
-                top: high + 1,
-            }
-        }
+        2 | 3 => read_pair(bytes, ws, end, limit, registers, at, left, top, tag),
         _ => Parse::Fault(at),
     }
 }
