@@ -3,25 +3,27 @@ use mathlib.Core.Path.{_≡_, refl, sym, subst, _∙_}
 use mathlib.Core.Logic.{⊎-elim}
 use mathlib.Core.Option.{some, none}
 use mathlib.Core.List.{List, [], _∷_, _++_}
-use Prim.Native.Nat.{ℕ, zero, suc, _+_, _<_, _≤_}
+use Prim.Native.Nat.{ℕ, zero, suc, _+_, _*_, _/_, _%_, _^_, _<_, _≤_}
 use native.Mathlib.Nat.{eq-or-lt-of-le, le-of-suc-le-suc}
 use native.Mathlib.Numerals.{add-one}
 use native.Mathlib.Omega.{arith}
-use lib.ListN.{length, getElem?, length-append}
+use lib.ListN.{length, set, getElem?, length-append}
+use lib.Seq.{getD-set-same}
 use Rattle.model.specs.Atom.{Atom, tagOf}
 use Rattle.model.specs.declared.Comparison.{Comparison}
-use Rattle.terms.specs.Workspace.{workspaceWords, assumptionBase, mostAssumptions, tableBase, Same, stored}
-use Rattle.terms.specs.Table.{place, Formed}
-use Rattle.terms.proofs.Frames.{same-within, stored-before, stored-after, stored-first, stored-second, stored-third}
+use Rattle.terms.specs.Workspace.{workspaceWords, assumptionBase, mostAssumptions, tableBase, mostTableNodes, Same}
+use Rattle.model.specs.declared.Comparison.the-variants.{Equal, Unequal, Less, AtMost}
+use Rattle.terms.specs.Table.{low, high, place, Formed}
+use Rattle.terms.proofs.Frames.{same-within, set-before, set-after}
 use Rattle.terms.proofs.Table.{term-same, formed-same}
 use Rattle.terms.proofs.Atoms.{kind-tag}
-use Rattle.assumptions.specs.Area.{slot, entryOf, atomIn, listed, Listed, Pushed}
+use Rattle.assumptions.specs.Area.{slot, packed, unpacked, entryOf, atomIn, listed, Listed, Pushed}
 
 -- ---- words that keep the area: the entries are the same
 module _ {ws us : List ℕ} where
   pub entry-same : (count : ℕ) → Same assumptionBase (slot count) ws us → (k : ℕ) → k < count → entryOf us k ≡ entryOf ws k
   unfolding entryOf
-  entry-same count s k h = rw (s .word (slot k) (omega arith) (omega arith), s .word (slot k + 1) (omega arith) (omega arith), s .word (slot k + 2) (omega arith) (omega arith))
+  entry-same count s k h = rw (s .word (slot k) (omega arith) (omega arith))
 
   module _ {count top : ℕ} (s : Same assumptionBase (slot count) ws us) (l : Listed ws count top) where
     pub held-same : (t : ℕ) → top ≤ t → Listed us count t
@@ -50,23 +52,37 @@ pub held-fewer : {ws : List ℕ} {count top : ℕ} (n t : ℕ) → n ≤ count �
 held-fewer n t h g l = record { few = omega (arith, l .few); held = λ k m. (omega (arith, l .held k (omega arith) .0), omega (arith, l .held k (omega arith) .1)) }
 
 -- ---- one more
-module _ {ws : List ℕ} {count top : ℕ} (c : count < mostAssumptions) (w : workspaceWords ≤ length ws) (l : Listed ws count top) (kind : Comparison) {x y : ℕ} (b : (x < top) × (y < top)) where
+tag-bound : (kind : Comparison) → tagOf kind < 4
+unfolding tagOf
+tag-bound Equal = omega arith
+tag-bound Unequal = omega arith
+tag-bound Less = omega arith
+tag-bound AtMost = omega arith
+
+unpacked-is : (kind : Comparison) (x y : ℕ) → x < mostTableNodes → unpacked (packed kind x y) ≡ record { kind = kind; left = x; right = y }
+unpacked-is kind x y h =
+    let t : packed kind x y % 4 ≡ tagOf kind = omega (arith, tag-bound kind) in
+    let l : low (packed kind x y) / 4 ≡ x = omega (arith, tag-bound kind) in
+    let r : high (packed kind x y) ≡ y = omega (arith, tag-bound kind) in
+    rw (t, l, r, kind-tag kind)
+
+module _ {ws : List ℕ} {count top : ℕ} (c : (count < mostAssumptions) × (top ≤ mostTableNodes) × (workspaceWords ≤ length ws)) (l : Listed ws count top) (kind : Comparison) {x y : ℕ} (b : (x < top) × (y < top)) where
   abbrev after : List ℕ
-  after = stored ws (slot count) (tagOf kind) x y
+  after = set ws (slot count) (packed kind x y)
 
   entry-new : entryOf after count ≡ record { kind = kind; left = x; right = y }
   unfolding entryOf
-  entry-new = rw (stored-first ws (slot count) (tagOf kind) x y (omega arith), stored-second ws (slot count) (tagOf kind) x y (omega arith), stored-third ws (slot count) (tagOf kind) x y (omega arith), kind-tag kind)
+  entry-new = rw (getD-set-same ws (slot count) (packed kind x y) 0 (omega arith)) (unpacked-is kind x y (omega arith))
 
-  pushed-stored : Pushed ws after count top (atomIn ws (record { kind = kind; left = x; right = y }))
+  pushed-set : Pushed ws after count top (atomIn ws (record { kind = kind; left = x; right = y }))
   unfolding listed
-  pushed-stored =
-      let d : Same 0 (slot count) ws after = stored-before ws (slot count) (tagOf kind) x y 0 (slot count) (omega arith) in
+  pushed-set =
+      let d : Same 0 (slot count) ws after = set-before ws (slot count) (packed kind x y) 0 (slot count) (omega arith) in
       let s : Same assumptionBase (slot count) ws after = same-within assumptionBase (slot count) (omega arith) (omega arith) d in
-      let t : Same tableBase (place top) ws after = stored-after ws (slot count) (tagOf kind) x y tableBase (place top) (omega arith) in
+      let t : Same tableBase (place top) ws after = set-after ws (slot count) (packed kind x y) tableBase (place top) (omega arith) in
       record {
         below = d;
-        above = stored-after ws (slot count) (tagOf kind) x y (slot (suc count)) (length ws) (omega arith);
+        above = set-after ws (slot count) (packed kind x y) (slot (suc count)) (length ws) (omega arith);
         held = record {
           few = omega arith;
           held = λ k m. ⊎-elim (λ e. subst (λ j. (entryOf after j .left < top) × (entryOf after j .right < top)) (sym e) (rw entry-new b)) (λ h. rw (entry-same count s k h) (l .held k h)) (eq-or-lt-of-le (le-of-suc-le-suc m));
@@ -74,8 +90,12 @@ module _ {ws : List ℕ} {count top : ℕ} (c : count < mostAssumptions) (w : wo
         is = rw (listed-same s l t count (omega arith), entry-new, term-same top t x (b .0), term-same top t y (b .1));
       }
 
-  pub pushed : {us : List ℕ} {tag : ℕ} → tag ≡ tagOf kind → us ≡ stored ws (slot count) tag x y → Pushed ws us count top (atomIn ws (record { kind = kind; left = x; right = y }))
-  pushed e q = subst (λ v. Pushed ws v count top (atomIn ws (record { kind = kind; left = x; right = y }))) (sym (rw (← e) q)) pushed-stored
+  pub pushed : {us : List ℕ} {tag : ℕ} → tag ≡ tagOf kind → us ≡ set ws (slot count) (tag + 4 * x + 65536 * y) → Pushed ws us count top (atomIn ws (record { kind = kind; left = x; right = y }))
+  pushed e q = subst (λ v. Pushed ws v count top (atomIn ws (record { kind = kind; left = x; right = y }))) (sym (rw (← e) q)) pushed-set
+
+  -- the word fits
+  pub packed-fits : {tag : ℕ} → tag ≡ tagOf kind → tag + 4 * x + 65536 * y < 2 ^ 32
+  packed-fits e = omega (arith, tag-bound kind)
 
 -- the table and its terms are kept
 module _ {ws us : List ℕ} {count top : ℕ} {a : Atom} (c : count < mostAssumptions) (f : Formed ws top) (p : Pushed ws us count top a) where

@@ -1,21 +1,29 @@
--- The assumptions of a path, in the workspace below the term table: three words each, kind, left node, right node. Assumes nothing.
+-- The assumptions of a path, in the workspace below the term table: one word each: the kind's tag, the left node, the right node. Assumes nothing.
 use mathlib.Core.Path.{_≡_}
 use mathlib.Core.List.{List, [], _∷_, _++_}
-use Prim.Native.Nat.{ℕ, zero, suc, _+_, _*_, _<_, _≤_}
+use Prim.Native.Nat.{ℕ, zero, suc, _+_, _*_, _/_, _%_, _<_, _≤_}
 use lib.ListN.{length, getD}
-use Rattle.model.specs.Atom.{Atom}
+use Rattle.model.specs.Atom.{Atom, tagOf}
+use Rattle.model.specs.declared.Comparison.{Comparison}
 use Rattle.terms.specs.Workspace.{assumptionBase, mostAssumptions, Same}
-use Rattle.terms.specs.Table.{termAt}
+use Rattle.terms.specs.Table.{low, high, termAt}
 use Rattle.terms.specs.Reader.{kindOf}
 use Rattle.assumptions.specs.declared.Assumption.{Assumption}
 
 -- where assumption k lies
 abbrev pub slot : ℕ → ℕ
-slot k = assumptionBase + 3 * k
+slot k = assumptionBase + k
+
+-- the word of an assumption, and the assumption in a word
+abbrev pub packed : (kind : Comparison) (left right : ℕ) → ℕ
+packed kind left right = tagOf kind + 4 * left + 65536 * right
+
+abbrev pub unpacked : ℕ → Assumption
+unpacked w = record { kind = kindOf (w % 4); left = low w / 4; right = high w }
 
 -- assumption k, its sides as nodes
 unfoldable pub entryOf : List ℕ → ℕ → Assumption
-entryOf ws k = record { kind = kindOf (getD ws (slot k) 0); left = getD ws (slot k + 1) 0; right = getD ws (slot k + 2) 0 }
+entryOf ws k = unpacked (getD ws (slot k) 0)
 
 -- an assumption as an atom
 abbrev pub atomIn : List ℕ → Assumption → Atom

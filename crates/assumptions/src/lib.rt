@@ -1,4 +1,4 @@
-// The assumptions of a path, kept in the lent workspace below the term table.
+// The assumptions of a path, kept in the lent workspace below the term table, one word each.
 use model::Comparison;
 ghost use mathlib.Core.Path.{_≡_};
 ghost use Prim.Native.Nat.{_≤_, _<_};
@@ -23,13 +23,9 @@ pub fn push(ws: &mut [u32], count: usize, top: usize, kind: Comparison, left: us
     requires { ⌜ (left < top) × (right < top) ⌝ }
     ensures { λ _. ⌜ Pushed (now (ws .entry)) (now (ws .exit)) count top (atomIn (now (ws .entry)) (record { kind = kind; left = left; right = right })) ⌝ }
 {
-    terms::store(
-        ws,
-        ASSUMPTIONS + 3 * count,
-        terms::reader::tag(kind),
-        left as u32,
-        right as u32,
-    );
+    let tag = fields::wide(terms::reader::tag(kind));
+    let word = tag + 4 * left + 65536 * right;
+    ws[ASSUMPTIONS + count] = word as u32;
 }
 
 // Assumption k.
@@ -37,10 +33,10 @@ pub fn get(ws: &[u32], k: usize) -> Assumption
     requires { ⌜ (k < mostAssumptions) × (workspaceWords ≤ length (now ws)) ⌝ }
     ensures { λ r. ⌜ r ≡ entryOf (now (ws .entry)) k ⌝ }
 {
-    let at = ASSUMPTIONS + 3 * k;
+    let word = ws[ASSUMPTIONS + k];
     Assumption {
-        kind: terms::reader::comparison(ws[at]),
-        left: fields::wide(ws[at + 1]),
-        right: fields::wide(ws[at + 2]),
+        kind: terms::reader::comparison(word % 4),
+        left: fields::wide(word % 65536 / 4),
+        right: fields::wide(word / 65536),
     }
 }

@@ -27,7 +27,7 @@ use Rattle.terms.proofs.reader.AtomParse.{enum as atom-enum}
 use Rattle.terms.proofs.Atoms.{told-expression, told-atom}
 use Rattle.terms.proofs.Substitution.{expression-self, atom-self}
 use Rattle.terms.proofs.Frames.{same-refl, same-trans, same-within}
-use Rattle.terms.proofs.Table.{term-same}
+use Rattle.terms.proofs.Table.{formed-none, term-same}
 use Rattle.assumptions.specs.Area.{slot, listed, Listed, Pushed}
 use Rattle.assumptions.proofs.Laws.{held-same, listed-same, pushed-table, pushed-formed}
 use Rattle.derivation.specs.Opening.{registerNodes}
@@ -101,7 +101,7 @@ pub record Filling (ws us : List ℕ) (n : ℕ) : Type 0 where
 
 module _ {ws : List ℕ} (w : workspaceWords ≤ length ws) where
   pub filling-none : Filling ws ws 0
-  filling-none = record { is = record { kept = same-refl 0 tableBase ws; formed = record { room = omega arith; nodes = λ i h. absurd (omega arith) }; are = λ v h. absurd (omega arith) }; long = refl; within = omega arith }
+  filling-none = record { is = record { kept = same-refl 0 tableBase ws; formed = formed-none w; are = λ v h. absurd (omega arith) }; long = refl; within = omega arith }
 
   module _ {us : List ℕ} {n : ℕ} (f : Filling ws us n) (h : n < 16) where
     pub filling-asks : Formed us n × (Space us n 1 × (n < mostVariables))

@@ -2,7 +2,7 @@
 use mathlib.Core.Path.{_≡_, refl, _∙_}
 use mathlib.Core.Logic.{_≢_}
 use mathlib.Core.List.{List}
-use Prim.Native.Nat.{ℕ, _+_, _≤_}
+use Prim.Native.Nat.{ℕ, _+_, _<_, _≤_}
 use native.Mathlib.Omega.{arith}
 use lib.ListN.{length, getD, set, length-set}
 use lib.Seq.{getD-set-same, getD-set-other}
@@ -17,6 +17,14 @@ same-trans p q = record { word = λ k a b. q .word k a b ∙ p .word k a b }
 pub same-within : {lo hi : ℕ} {ws us : List ℕ} (a b : ℕ) → lo ≤ a → b ≤ hi → Same lo hi ws us → Same a b ws us
 same-within a b l h p = record { word = λ k m n. p .word k (omega arith) (omega arith) }
 
+-- ---- one word set at p: every other is kept
+module _ (ws : List ℕ) (p a : ℕ) where
+  pub set-before : (lo hi : ℕ) → hi ≤ p → Same lo hi ws (set ws p a)
+  set-before lo hi h = record { word = λ k l m. getD-set-other ws p k a 0 (omega arith) }
+
+  pub set-after : (lo hi : ℕ) → p < lo → Same lo hi ws (set ws p a)
+  set-after lo hi h = record { word = λ k l m. getD-set-other ws p k a 0 (omega arith) }
+
 -- ---- three words stored at p: every word outside them is kept, below and above
 module _ (ws : List ℕ) (p a b c : ℕ) where
   pub stored-length : length (stored ws p a b c) ≡ length ws
@@ -27,9 +35,6 @@ module _ (ws : List ℕ) (p a b c : ℕ) where
 
   pub stored-before : (lo hi : ℕ) → hi ≤ p → Same lo hi ws (stored ws p a b c)
   stored-before lo hi h = record { word = λ k l m. stored-other k (omega arith) (omega arith) (omega arith) }
-
-  pub stored-after : (lo hi : ℕ) → p + 3 ≤ lo → Same lo hi ws (stored ws p a b c)
-  stored-after lo hi h = record { word = λ k l m. stored-other k (omega arith) (omega arith) (omega arith) }
 
   module _ (room : p + 3 ≤ length ws) where
     pub stored-first : getD (stored ws p a b c) p 0 ≡ a

@@ -2,25 +2,25 @@
 use mathlib.Core.Path.{_≡_, refl, sym, ap, ap₂, subst, _∙_}
 use mathlib.Core.Logic.{⊎-elim}
 use mathlib.Core.List.{List, []}
-use Prim.Native.Nat.{ℕ, zero, suc, _+_, _<_, _≤_}
+use Prim.Native.Nat.{ℕ, zero, suc, _+_, _*_, _%_, _<_, _≤_}
 use native.Mathlib.Nat.{eq-or-lt-of-le, le-of-suc-le-suc, not-suc-le-zero}
 use native.Mathlib.Numerals.{add-one}
 use native.Mathlib.Omega.{arith}
 use lib.ListN.{length, getD, length-append, List·getD-append}
 use lib.Seq.{getD-at}
 use Rattle.model.specs.Term.{constant, sum, difference}
-use Rattle.terms.specs.Workspace.{tableBase, Same, stored}
-use Rattle.terms.specs.Table.{place, nodeOfTag, viewOf, build, termsBelow, termAt, InOrder, Formed, Put, Space}
+use Rattle.terms.specs.Workspace.{workspaceWords, tableBase, Same, stored}
+use Rattle.terms.specs.Table.{low, high, place, marksAt, nodeOfTag, viewOf, build, termsBelow, termAt, termOf, InOrder, Known, Formed, Put, Space, Fits, Twinned}
 use Rattle.terms.specs.declared.Node.{Node}
 use Rattle.terms.specs.declared.Node.the-variants.{Constant, Variable, Sum, Difference}
-use Rattle.terms.proofs.Frames.{same-within, stored-length, stored-before, stored-first, stored-second, stored-third}
+use Rattle.terms.proofs.Frames.{same-trans, same-within, stored-length, stored-before, stored-first, stored-second, stored-third}
 
 -- ---- one node
-pub other-tag : (t x y : ℕ) → (t ≡ 0 → ⊥) → (t ≡ 1 → ⊥) → (t ≡ 2 → ⊥) → nodeOfTag t x y ≡ Difference x y
-other-tag zero x y a b c = absurd (a refl)
-other-tag (suc zero) x y a b c = absurd (b refl)
-other-tag (suc (suc zero)) x y a b c = absurd (c refl)
-other-tag (suc (suc (suc t))) x y a b c = refl
+pub other-tag : (t p v : ℕ) → (t ≡ 0 → ⊥) → (t ≡ 1 → ⊥) → (t ≡ 2 → ⊥) → nodeOfTag t p v ≡ Difference (low p) (high p)
+other-tag zero p v a b c = absurd (a refl)
+other-tag (suc zero) p v a b c = absurd (b refl)
+other-tag (suc (suc zero)) p v a b c = absurd (c refl)
+other-tag (suc (suc (suc t))) p v a b c = refl
 
 -- ---- the terms of a table
 length-terms : (ws : List ℕ) (n : ℕ) → length (termsBelow ws n) ≡ n
@@ -50,7 +50,11 @@ built ws i b = getD-at (termsBelow ws i) _ [] (constant 0) i (length-terms ws i)
 
 -- a shorter table
 pub formed-less : {ws : List ℕ} {n : ℕ} (m : ℕ) → m ≤ n → Formed ws n → Formed ws m
-formed-less m h f = record { room = omega arith; nodes = λ i l. f .nodes i (omega arith) }
+formed-less m h f = record { room = omega arith; nodes = λ i l. f .nodes i (omega arith); known = λ i l. f .known i (omega arith) }
+
+-- no node
+pub formed-none : {ws : List ℕ} → workspaceWords ≤ length ws → Formed ws 0
+formed-none h = record { room = omega arith; nodes = λ i l. absurd (omega arith); known = λ i l. absurd (omega arith) }
 
 -- ---- node i as an arm of `match view(..)` knows it
 module _ {ws : List ℕ} {i : ℕ} (f : Formed ws (suc i)) where
@@ -60,6 +64,9 @@ module _ {ws : List ℕ} {i : ℕ} (f : Formed ws (suc i)) where
 
     pub node-built : termAt ws i ≡ build (termAt ws) m
     node-built = built ws i (f .nodes i (omega arith)) ∙ ap (build (termAt ws)) (sym e ∙ a)
+
+  pub beside : Known ws i
+  beside = f .known i (omega arith)
 
   pub part : {j : ℕ} → j < i → Formed ws (suc j)
   part h = formed-less _ (omega arith) f
@@ -80,8 +87,19 @@ module _ {ws us : List ℕ} where
   unfolding termAt
   term-same n s i h = ap (λ l. getD l i (constant 0)) (terms-same (suc i) (same-within tableBase (place (suc i)) (omega arith) (omega arith) s))
 
+  known-same : (n : ℕ) → Same tableBase (place n) ws us → (i : ℕ) → i < n → Known ws i → Known us i
+  known-same n s i h k =
+      let t : termAt us i ≡ termAt ws i = term-same n s i h in
+      let m : marksAt us i ≡ marksAt ws i = s .word (place i + 2) (omega arith) (omega arith) in
+      record {
+        facts = rw (m, t) (k .facts);
+        value = rw (s .word (place i + 1) (omega arith) (omega arith), t) (k .value);
+        before = rw m (k .before);
+        twin = rw (m, t, term-same n s (high (marksAt ws i)) (omega (arith, k .before))) (k .twin);
+      }
+
   pub formed-same : (n : ℕ) → Same tableBase (place n) ws us → length us ≡ length ws → Formed ws n → Formed us n
-  formed-same n s e f = record { room = omega arith; nodes = λ i h. rw (node-same n s i h) (f .nodes i h) }
+  formed-same n s e f = record { room = omega arith; nodes = λ i h. rw (node-same n s i h) (f .nodes i h); known = λ i h. known-same n s i h (f .known i h) }
 
   build-same : (n : ℕ) → Same tableBase (place n) ws us → (o : Node) → InOrder n o → build (termAt us) o ≡ build (termAt ws) o
   build-same n s (Constant v) b = refl
@@ -89,30 +107,69 @@ module _ {ws us : List ℕ} where
   build-same n s (Sum l r) b = ap₂ sum (term-same n s l (b .0)) (term-same n s r (b .1))
   build-same n s (Difference l r) b = ap₂ difference (term-same n s l (b .0)) (term-same n s r (b .1))
 
-formed-more : {ws : List ℕ} {n : ℕ} → Formed ws n → place (suc n) ≤ length ws → InOrder n (viewOf ws n) → Formed ws (suc n)
-formed-more {ws} {n} f h b = record { room = h; nodes = λ i l. ⊎-elim (λ e. rw e b) (λ m. f .nodes i m) (eq-or-lt-of-le (le-of-suc-le-suc l)) }
+formed-more : {ws : List ℕ} {n : ℕ} → Formed ws n → place (suc n) ≤ length ws → InOrder n (viewOf ws n) → Known ws n → Formed ws (suc n)
+formed-more {ws} {n} f h b k = record {
+  room = h;
+  nodes = λ i l. ⊎-elim (λ e. rw e b) (λ m. f .nodes i m) (eq-or-lt-of-le (le-of-suc-le-suc l));
+  known = λ i l. ⊎-elim (λ e. subst (Known ws) (sym e) k) (λ m. f .known i m) (eq-or-lt-of-le (le-of-suc-le-suc l));
+}
 
--- ---- what a node put at the top says
-module _ (ws : List ℕ) (top t x y : ℕ) (room : place (suc top) ≤ length ws) where
-  stored-node : viewOf (stored ws (place top) t x y) top ≡ nodeOfTag t x y
+pub found-in : {ws vs : List ℕ} {top parts value facts first : ℕ} → Twinned ws vs top parts value facts first → first ≤ top
+found-in t = ⊎-elim (λ h. omega arith) (λ h. omega (arith, h .0)) (t .found)
+
+-- ---- what a node put at the top says: vs are the words once its twin `first` is found, us those once it is stored
+module _ {ws vs us : List ℕ} {top parts value facts first : ℕ} (f : Formed ws top) (room : Space ws top 1) (fits : Fits ws top parts value facts) (small : facts < 65536) (t : Twinned ws vs top parts value facts first) (long : length vs ≡ length ws) (e : us ≡ stored vs (place top) parts value (facts + 65536 * first)) where
+  abbrev marks : ℕ
+  marks = facts + 65536 * first
+
+  enough : place top + 3 ≤ length vs
+  enough = omega (arith, room .words, room .fits)
+
+  new-marks : marksAt us top ≡ marks
+  new-marks = rw (e, stored-third vs (place top) parts value marks enough)
+
+  new-node : viewOf us top ≡ nodeOfTag (facts % 4) parts value
   unfolding viewOf
-  stored-node = rw (stored-first ws (place top) t x y (omega arith), stored-second ws (place top) t x y (omega arith), stored-third ws (place top) t x y (omega arith))
+  new-node =
+      let m : marks % 4 ≡ facts % 4 = omega arith in
+      rw (new-marks, m, e, stored-first vs (place top) parts value marks enough, stored-second vs (place top) parts value marks enough)
 
-  -- the terms of the parts are those before the node was put
-  put-stored : Formed ws top → InOrder top (nodeOfTag t x y) → Put ws (stored ws (place top) t x y) top (build (termAt ws) (nodeOfTag t x y))
-  put-stored f b =
-      let us : List ℕ = stored ws (place top) t x y in
-      let s : Same tableBase (place top) ws us = stored-before ws (place top) t x y tableBase (place top) (omega arith) in
-      let n : InOrder top (viewOf us top) = rw stored-node b in
+  below-top : Same 0 (place top) ws us
+  below-top = same-trans (same-within 0 (place top) (omega arith) (omega (arith, room .fits)) (t .kept)) (subst (λ l. Same 0 (place top) vs l) (sym e) (stored-before vs (place top) parts value marks 0 (place top) (omega arith)))
+
+  table : Same tableBase (place top) ws us
+  table = same-within tableBase (place top) (omega arith) (omega arith) below-top
+
+  new-order : InOrder top (viewOf us top)
+  new-order = rw new-node (fits .order)
+
+  new-term : termAt us top ≡ termOf ws parts value facts
+  new-term = built us top new-order ∙ ap (build (termAt us)) new-node ∙ build-same top table (nodeOfTag (facts % 4) parts value) (fits .order)
+
+  first-term : termAt us first ≡ termAt us top
+  first-term =
+      ⊎-elim
+      (λ h. ap (termAt us) h)
+      (λ h. term-same top table first (h .0) ∙ built ws first (f .nodes first (h .0)) ∙ ap (build (termAt ws)) (h .1) ∙ sym new-term)
+      (t .found)
+
+  new-known : Known us top
+  new-known =
+      let l : low marks ≡ facts = omega arith in
+      let h : high marks ≡ first = omega arith in
       record {
-        kept = stored-before ws (place top) t x y 0 (place top) (omega arith);
-        formed = formed-more (formed-same top s (stored-length ws (place top) t x y) f) (rw (stored-length ws (place top) t x y) room) n;
-        is = built us top n ∙ ap (build (termAt us)) stored-node ∙ build-same top s (nodeOfTag t x y) b;
+        facts = rw (new-marks, l, new-term) (fits .facts-are);
+        value = rw (new-term, e, stored-second vs (place top) parts value marks enough) (fits .value-is);
+        before = rw (new-marks, h) (found-in t);
+        twin = rw (new-marks, h) first-term;
       }
 
--- the same of the words us that `put` left
-pub put-node : {ws us : List ℕ} (top t x y : ℕ) → us ≡ stored ws (place top) t x y → Space ws top 1 → Formed ws top → InOrder top (nodeOfTag t x y) → Put ws us top (build (termAt ws) (nodeOfTag t x y))
-put-node {ws} top t x y e h f b = subst (λ l. Put ws l top (build (termAt ws) (nodeOfTag t x y))) (sym e) (put-stored ws top t x y (omega arith) f b)
+  pub put-node : Put ws us top (termOf ws parts value facts)
+  put-node = record {
+    kept = below-top;
+    formed = formed-more (formed-same top table (ap length e ∙ stored-length vs (place top) parts value marks ∙ long) f) (rw (e, stored-length vs (place top) parts value marks) (omega arith)) new-order new-known;
+    is = new-term;
+  }
 
 -- ---- a call on a part, in a recursion whose measure is the node's number: the measure falls, and the part's nodes are formed
 module _ {ws : List ℕ} {i t l r : ℕ} (e : i ≡ t) (f : Formed ws (suc i)) (b : (l < i) × (r < i)) where

@@ -1,51 +1,238 @@
--- Laws of the functions that walk a term: one for each way out. Assumes nothing.
-use mathlib.Core.Path.{_≡_, refl, sym, _∙_}
-use mathlib.Core.Logic.{⊎-elim, _⊎_, _≢_}
+-- Laws of what stands beside a node, and of the functions that go by it: one for each way out. Assumes nothing.
+use mathlib.Core.Path.{_≡_, refl, sym, ap, subst, _∙_}
+use mathlib.Core.Logic.{⊎-elim, _⊎_, inl, inr, _≢_}
 use mathlib.Core.Bool.{Bool, true, false, _&&_}
 use mathlib.Core.List.{List}
-use Prim.Native.Nat.{ℕ, suc, _-_, _%_, _^_, _<_}
+use Prim.Native.Nat.{ℕ, zero, suc, _+_, _-_, _*_, _/_, _%_, _^_, _<_, _≤_}
 use native.Mathlib.Omega.{arith}
 use native.Mathlib.Decide.{decLt}
-use lib.Dec.{eqb, leb, ltb}
-use borrow.Author.Tests.{eq-eqb, lt-ltb, le-ltb, le-leb, lt-leb}
+use lib.ListN.{set}
+use lib.Dec.{eqb, leb}
+use borrow.Author.Tests.{eq-eqb, eqb-true, le-leb, lt-leb}
 use denote.Enum.Declared.{tagOf, declared}
 use Rattle.model.specs.Word.{addW, subW}
 use Rattle.model.specs.Term.{Term, constant, variable, sum, difference, eval, size, closed, eqTerm}
-use Rattle.terms.specs.Closed.{valueIf, closedValue, bothValues}
-use Rattle.terms.specs.Table.{viewOf, build, termAt, Formed}
+use Rattle.model.proofs.Terms.{same-term, and-left, and-right}
+use Rattle.terms.specs.Workspace.{mostVariables, hintBase, Same}
+use Rattle.terms.specs.Closed.{closedValue}
+use Rattle.terms.specs.Table.{low, high, partsAt, valueAt, marksAt, nodeOfTag, viewOf, build, termAt, termOf, tagOfTerm, bit, capped, factsOf, valueOf, InOrder, Known, Formed, Put, Fits, Twinned}
+use Rattle.terms.specs.Reader.{operationOf}
 use Rattle.terms.specs.declared.Closed.{Closed}
 use Rattle.terms.specs.declared.Closed.the-variants.{Value, Open}
 use Rattle.terms.specs.declared.Node.{Node}
 use Rattle.terms.specs.declared.Node.the-variants.{Constant, Variable, Sum, Difference}
 use Rattle.terms.proofs.Node.{enum}
-use Rattle.terms.proofs.Table.{node-built}
+use Rattle.terms.proofs.Frames.{same-refl, set-before}
+use Rattle.terms.proofs.Table.{node-built, beside}
+
+-- ---- what marks say
+tag-bound : (t : Term) → tagOfTerm t < 4
+tag-bound (constant c) = omega arith
+tag-bound (variable v) = omega arith
+tag-bound (sum s t) = omega arith
+tag-bound (difference s t) = omega arith
+
+bit-bound : (b : Bool) → bit b < 2
+bit-bound true = omega arith
+bit-bound false = omega arith
+
+bit-both : (a b : Bool) → bit (a && b) ≡ bit a * bit b
+bit-both true true = refl
+bit-both true false = refl
+bit-both false b = omega arith
+
+pub bits-product : (x y : ℕ) → x < 2 → y < 2 → x * y < 2
+bits-product zero y h k = omega arith
+bits-product (suc zero) y h k = omega arith
+bits-product (suc (suc x)) y h k = absurd (omega arith)
+
+capped-over : (n : ℕ) → 256 ≤ n → capped n ≡ 256
+capped-over n h = omega arith
+
+capped-under : (n : ℕ) → n ≤ 256 → capped n ≡ n
+capped-under n h = omega arith
+
+-- sizes may be capped before they are added
+capped-sum : (a b : ℕ) → capped (a + b + 1) ≡ capped (capped a + capped b + 1)
+capped-sum a b = go (decLt 256 a) (decLt 256 b)
+  where
+    go : Dec (256 < a) → Dec (256 < b) → capped (a + b + 1) ≡ capped (capped a + capped b + 1)
+    go (yes h) k = rw (capped-over (a + b + 1) (omega arith), capped-over a (omega arith), capped-over (256 + capped b + 1) (omega arith))
+    go (no h) (yes k) = rw (capped-over (a + b + 1) (omega arith), capped-over b (omega arith), capped-over (capped a + 256 + 1) (omega arith))
+    go (no h) (no k) = rw (capped-under a (omega arith), capped-under b (omega arith))
+
+module _ (m : ℕ) (t : Term) (e : low m ≡ factsOf t) where
+  pub closed-bit : m / 4 % 2 ≡ bit (closed t)
+  unfolding factsOf
+  closed-bit = omega (arith, e, tag-bound t, bit-bound (closed t))
+
+  pub size-in : low m / 8 ≡ capped (size t)
+  unfolding factsOf
+  size-in = omega (arith, e, tag-bound t, bit-bound (closed t))
+
+  pub small-of : leb (low m / 8) 255 ≡ leb (size t) 255
+  small-of = rw size-in (go (decLt 255 (size t)))
+    where
+      go : Dec (255 < size t) → leb (capped (size t)) 255 ≡ leb (size t) 255
+      go (yes h) = rw (lt-leb (capped (size t)) 255 (omega arith), lt-leb (size t) 255 h)
+      go (no h) = rw (le-leb (capped (size t)) 255 (omega arith), le-leb (size t) 255 (omega arith))
 
 -- ---- closed terms
-pub open-second : (f : ℕ → ℕ → ℕ) (a : ℕ) {b : Closed} → b ≡ Open → Open ≡ bothValues f (Value a) b
-open-second f a e = rw e
+module _ (t : Term) where
+  value-by : (b : Bool) → closed t ≡ b → bit b ≡ 1 → Value (valueOf t) ≡ closedValue t
+  unfolding valueOf closedValue
+  value-by true e h = let n : 1 * eval (λ v. 0) t ≡ eval (λ v. 0) t = omega arith in rw (e, n)
+  value-by false e h = absurd (omega arith)
 
-both-if : (f : ℕ → ℕ → ℕ) (c d : Bool) (m n : ℕ) → bothValues f (valueIf c m) (valueIf d n) ≡ valueIf (c && d) (f m n)
-both-if f true true m n = refl
-both-if f true false m n = refl
-both-if f false d m n = refl
+  open-by : (b : Bool) → closed t ≡ b → bit b ≢ 1 → Open ≡ closedValue t
+  unfolding closedValue
+  open-by true e h = absurd (h refl)
+  open-by false e h = rw e
 
-module _ {t : Term} where
-  pub closed-constant : {c : ℕ} → t ≡ constant c → c < 2 ^ 32 → Value c ≡ closedValue t
-  unfolding closedValue closed eval
-  closed-constant {c} e h = let m : c % 2 ^ 32 ≡ c = omega arith in rw (e, m)
+module _ {ws : List ℕ} {i : ℕ} (k : Known ws i) where
+  pub closed-value : {v : ℕ} → marksAt ws i / 4 % 2 ≡ 1 → v ≡ valueAt ws i → Value v ≡ closedValue (termAt ws i)
+  closed-value h e = rw (e, k .value) (value-by (termAt ws i) (closed (termAt ws i)) refl (sym (closed-bit (marksAt ws i) (termAt ws i) (k .facts)) ∙ h))
 
-  pub closed-variable : {v : ℕ} → t ≡ variable v → Open ≡ closedValue t
-  unfolding closedValue closed
-  closed-variable e = rw e
+  pub open-value : marksAt ws i / 4 % 2 ≢ 1 → Open ≡ closedValue (termAt ws i)
+  open-value h = open-by (termAt ws i) (closed (termAt ws i)) refl (λ e. h (closed-bit (marksAt ws i) (termAt ws i) (k .facts) ∙ e))
 
-  module _ {p q : Term} {a b r : Closed} (ea : a ≡ closedValue p) (eb : b ≡ closedValue q) where
-    pub closed-sum : t ≡ sum p q → r ≡ bothValues addW a b → r ≡ closedValue t
-    unfolding closedValue closed eval
-    closed-sum e er = rw (er, ea, eb, e) (both-if addW (closed p) (closed q) _ _)
+-- ---- a pair's facts and value, by those of its parts
+module _ (s t : Term) where
+  pair-facts : (tag : ℕ) → (1 < tag) × (tag < 4) → factsOf (operationOf tag s t) ≡ tag + 4 * (bit (closed s) * bit (closed t)) + 8 * capped (capped (size s) + capped (size t) + 1)
+  unfolding factsOf closed size
+  pair-facts zero h = absurd (omega arith)
+  pair-facts (suc zero) h = absurd (omega arith)
+  pair-facts (suc (suc zero)) h = rw (bit-both (closed s) (closed t), capped-sum (size s) (size t))
+  pair-facts (suc (suc (suc zero))) h = rw (bit-both (closed s) (closed t), capped-sum (size s) (size t))
+  pair-facts (suc (suc (suc (suc tag)))) h = absurd (omega arith)
 
-    pub closed-difference : t ≡ difference p q → r ≡ bothValues subW a b → r ≡ closedValue t
-    unfolding closedValue closed eval
-    closed-difference e er = rw (er, ea, eb, e) (both-if subW (closed p) (closed q) _ _)
+  pair-open : (tag : ℕ) → bit (closed s) * bit (closed t) ≡ 0 → 0 ≡ valueOf (operationOf tag s t)
+  unfolding valueOf closed
+  pair-open zero h = rw (bit-both (closed s) (closed t), h) (omega arith)
+  pair-open (suc zero) h = rw (bit-both (closed s) (closed t), h) (omega arith)
+  pair-open (suc (suc zero)) h = rw (bit-both (closed s) (closed t), h) (omega arith)
+  pair-open (suc (suc (suc tag))) h = rw (bit-both (closed s) (closed t), h) (omega arith)
+
+  both-closed : (a b : Bool) → bit a * bit b ≢ 0 → (bit a ≡ 1) × (bit b ≡ 1)
+  both-closed true true h = (refl, refl)
+  both-closed true false h = absurd (h refl)
+  both-closed false b h = absurd (h (omega arith))
+
+  module _ (h : bit (closed s) * bit (closed t) ≢ 0) where
+    sum-value : addW (valueOf s) (valueOf t) ≡ valueOf (sum s t)
+    unfolding valueOf closed eval
+    sum-value =
+        let x : ℕ = eval (λ v. 0) s in
+        let y : ℕ = eval (λ v. 0) t in
+        let o : 1 * x ≡ x = omega arith in
+        let p : 1 * y ≡ y = omega arith in
+        let q : 1 * addW x y ≡ addW x y = omega arith in
+        let a : bit (closed s) ≡ 1 = both-closed (closed s) (closed t) h .0 in
+        let b : bit (closed t) ≡ 1 = both-closed (closed s) (closed t) h .1 in
+        rw (bit-both (closed s) (closed t), a, b, o, p, q)
+
+    difference-value : subW (valueOf s) (valueOf t) ≡ valueOf (difference s t)
+    unfolding valueOf closed eval
+    difference-value =
+        let x : ℕ = eval (λ v. 0) s in
+        let y : ℕ = eval (λ v. 0) t in
+        let o : 1 * x ≡ x = omega arith in
+        let p : 1 * y ≡ y = omega arith in
+        let q : 1 * subW x y ≡ subW x y = omega arith in
+        let a : bit (closed s) ≡ 1 = both-closed (closed s) (closed t) h .0 in
+        let b : bit (closed t) ≡ 1 = both-closed (closed s) (closed t) h .1 in
+        rw (bit-both (closed s) (closed t), a, b, o, p, q)
+
+-- ---- the words of a new node
+module _ (ws : List ℕ) (top : ℕ) where
+  pub fits-constant : {v : ℕ} → v < 2 ^ 32 → Fits ws top 0 v 12
+  unfolding factsOf valueOf closed eval size
+  fits-constant h = record { order = tt; facts-are = refl; value-is = omega arith }
+
+  pub fits-variable : {v : ℕ} → v < mostVariables → Fits ws top v 0 9
+  unfolding factsOf valueOf closed size
+  fits-variable h = record { order = h; facts-are = refl; value-is = omega arith }
+
+-- a pair of nodes: a and b are their marks, x and y the nodes that stand for their terms
+module _ {ws : List ℕ} {top tag left right : ℕ} (f : Formed ws top) (h : (1 < tag) × (tag < 4)) (i : (left < top) × (right < top)) {a b x y value facts : ℕ}
+    (ea : a ≡ marksAt ws left) (eb : b ≡ marksAt ws right) (ex : (x ≡ high a) × (x < 65536)) (ey : (y ≡ high b) × (y < 65536))
+    (v : value ≡ valueOf (operationOf tag (termAt ws left) (termAt ws right))) (e : facts ≡ tag + 4 * ((a / 4 % 2) * (b / 4 % 2)) + 8 * capped (low a / 8 + low b / 8 + 1)) where
+  abbrev parts : ℕ
+  parts = x + 65536 * y
+
+  facts-left : low a ≡ factsOf (termAt ws left)
+  facts-left = rw ea (f .known left (i .0) .facts)
+
+  facts-right : low b ≡ factsOf (termAt ws right)
+  facts-right = rw eb (f .known right (i .1) .facts)
+
+  joined-facts : facts ≡ factsOf (operationOf tag (termAt ws left) (termAt ws right))
+  joined-facts = e ∙ rw (closed-bit a (termAt ws left) facts-left, closed-bit b (termAt ws right) facts-right, size-in a (termAt ws left) facts-left, size-in b (termAt ws right) facts-right) (sym (pair-facts (termAt ws left) (termAt ws right) tag h))
+
+  tag-of : facts % 4 ≡ tag
+  tag-of = omega arith
+
+  low-parts : low parts ≡ high (marksAt ws left)
+  low-parts = let m : low parts ≡ x = omega arith in m ∙ ex .0 ∙ ap high ea
+
+  high-parts : high parts ≡ high (marksAt ws right)
+  high-parts = let m : high parts ≡ y = omega arith in m ∙ ey .0 ∙ ap high eb
+
+  pair-node : (t : ℕ) → (1 < t) × (t < 4) → build (termAt ws) (nodeOfTag t parts value) ≡ operationOf t (termAt ws left) (termAt ws right)
+  pair-node zero k = absurd (omega arith)
+  pair-node (suc zero) k = absurd (omega arith)
+  pair-node (suc (suc zero)) k = rw (low-parts, high-parts, f .known left (i .0) .twin, f .known right (i .1) .twin)
+  pair-node (suc (suc (suc t))) k = rw (low-parts, high-parts, f .known left (i .0) .twin, f .known right (i .1) .twin)
+
+  pair-order : (t : ℕ) → (1 < t) × (t < 4) → InOrder top (nodeOfTag t parts value)
+  pair-order zero k = absurd (omega arith)
+  pair-order (suc zero) k = absurd (omega arith)
+  pair-order (suc (suc zero)) k = (omega (arith, f .known left (i .0) .before, low-parts), omega (arith, f .known right (i .1) .before, high-parts))
+  pair-order (suc (suc (suc t))) k = (omega (arith, f .known left (i .0) .before, low-parts), omega (arith, f .known right (i .1) .before, high-parts))
+
+  pair-term : termOf ws parts value facts ≡ operationOf tag (termAt ws left) (termAt ws right)
+  pair-term = rw tag-of (pair-node tag h)
+
+  pub fits-pair : Fits ws top parts value facts
+  fits-pair = record { order = rw tag-of (pair-order tag h); facts-are = rw pair-term joined-facts; value-is = rw pair-term v }
+
+  pub put-as-pair : {us : List ℕ} → Put ws us top (termOf ws parts value facts) → Put ws us top (operationOf tag (termAt ws left) (termAt ws right))
+  put-as-pair {us} p = subst (Put ws us top) pair-term p
+
+-- ---- the value of a pair
+module _ {ws : List ℕ} {left right : ℕ} (f : Formed ws (suc left)) (g : Formed ws (suc right)) where
+  bits : (marksAt ws left / 4 % 2) * (marksAt ws right / 4 % 2) ≡ bit (closed (termAt ws left)) * bit (closed (termAt ws right))
+  bits = rw (closed-bit (marksAt ws left) (termAt ws left) (beside f .facts), closed-bit (marksAt ws right) (termAt ws right) (beside g .facts))
+
+  pub computed-open : (tag : ℕ) → (marksAt ws left / 4 % 2) * (marksAt ws right / 4 % 2) ≡ 0 → 0 ≡ valueOf (operationOf tag (termAt ws left) (termAt ws right))
+  computed-open tag h = pair-open (termAt ws left) (termAt ws right) tag (sym bits ∙ h)
+
+  module _ (h : (marksAt ws left / 4 % 2) * (marksAt ws right / 4 % 2) ≢ 0) where
+    pub computed-sum : {tag : ℕ} → tag ≡ 2 → addW (valueAt ws left) (valueAt ws right) ≡ valueOf (operationOf tag (termAt ws left) (termAt ws right))
+    computed-sum e = rw (e, beside f .value, beside g .value) (sum-value (termAt ws left) (termAt ws right) (λ q. h (bits ∙ q)))
+
+    pub computed-difference : (tag : ℕ) → (1 < tag) × (tag < 4) → tag ≢ 2 → subW (valueAt ws left) (valueAt ws right) ≡ valueOf (operationOf tag (termAt ws left) (termAt ws right))
+    computed-difference zero k n = absurd (omega arith)
+    computed-difference (suc zero) k n = absurd (omega arith)
+    computed-difference (suc (suc zero)) k n = absurd (n refl)
+    computed-difference (suc (suc (suc t))) k n = rw (beside f .value, beside g .value) (difference-value (termAt ws left) (termAt ws right) (λ q. h (bits ∙ q)))
+
+-- ---- the node for words
+module _ {ws : List ℕ} {top parts value facts : ℕ} where
+  pub find-hinted : {n : ℕ} → n < top → true ≡ (eqb (partsAt ws n) parts && eqb (valueAt ws n) value && eqb (low (marksAt ws n)) facts) → Twinned ws ws top parts value facts n
+  unfolding viewOf
+  find-hinted {n} h e =
+      let a : Bool = eqb (partsAt ws n) parts in
+      let b : Bool = eqb (valueAt ws n) value in
+      let c : Bool = eqb (low (marksAt ws n)) facts in
+      let x : partsAt ws n ≡ parts = eqb-true (partsAt ws n) parts (and-left a b (and-left (a && b) c (sym e))) in
+      let y : valueAt ws n ≡ value = eqb-true (valueAt ws n) value (and-right a b (and-left (a && b) c (sym e))) in
+      let z : low (marksAt ws n) ≡ facts = eqb-true (low (marksAt ws n)) facts (and-right (a && b) c (sym e)) in
+      let t : marksAt ws n % 4 ≡ facts % 4 = omega arith in
+      record { kept = same-refl 0 hintBase ws; found = inr (h, rw (t, x, y)) }
+
+  pub find-new : {us : List ℕ} {at : ℕ} (w : ℕ) → hintBase ≤ at → us ≡ set ws at w → Twinned ws us top parts value facts top
+  find-new {us} {at} w h e = record { kept = subst (Same 0 hintBase ws) (sym e) (set-before ws at w 0 hintBase h); found = inl refl }
 
 -- ---- the same term
 pub eqTerm-refl : (t : Term) → eqTerm t t ≡ true
@@ -77,8 +264,17 @@ apart f (Difference a b) (Variable c) h = refl
 apart f (Difference a b) (Sum c d) h = refl
 apart f (Difference a b) (Difference c d) h = absurd (h refl)
 
-pub same-node : (ws : List ℕ) {i j : ℕ} → i ≡ j → true ≡ eqTerm (termAt ws i) (termAt ws j)
-same-node ws {i} {j} e = rw e (sym (eqTerm-refl (termAt ws j)))
+-- the same node stands for both
+pub same-twin : {ws : List ℕ} {i j : ℕ} → Formed ws (suc i) → Formed ws (suc j) → high (marksAt ws i) ≡ high (marksAt ws j) → true ≡ eqTerm (termAt ws i) (termAt ws j)
+same-twin {ws} {i} {j} f g e = let t : termAt ws i ≡ termAt ws j = sym (beside f .twin) ∙ ap (termAt ws) e ∙ beside g .twin in rw t (sym (eqTerm-refl (termAt ws j)))
+
+-- terms with different facts
+pub same-facts : {ws : List ℕ} {i j : ℕ} → Formed ws (suc i) → Formed ws (suc j) → low (marksAt ws i) ≢ low (marksAt ws j) → false ≡ eqTerm (termAt ws i) (termAt ws j)
+same-facts {ws} {i} {j} f g n = go (eqTerm (termAt ws i) (termAt ws j)) refl
+  where
+    go : (b : Bool) → eqTerm (termAt ws i) (termAt ws j) ≡ b → false ≡ b
+    go true e = absurd (n (beside f .facts ∙ ap factsOf (same-term (termAt ws i) (termAt ws j) e) ∙ sym (beside g .facts)))
+    go false e = refl
 
 -- nodes of two kinds: that of the first is k, and the second is of another
 module _ {ws : List ℕ} {i j : ℕ} (f : Formed ws (suc i)) (g : Formed ws (suc j)) {m n : Node} (p : m ≡ viewOf ws i) (q : n ≡ viewOf ws j) where
@@ -112,29 +308,3 @@ module _ {s t : Term} where
     pub differ-difference : s ≡ difference a b → t ≡ difference c d → x ≡ eqTerm a c → x ≡ false → false ≡ eqTerm s t
     unfolding eqTerm
     differ-difference p q h e = rw (p, q, ← h, e)
-
--- ---- the nodes that are left after a term's
-module _ {t : Term} (left : ℕ) where
-  pub left-constant : {c : ℕ} → t ≡ constant c → left - 1 ≡ left - size t
-  unfolding size
-  left-constant e = rw e
-
-  pub left-variable : {v : ℕ} → t ≡ variable v → left - 1 ≡ left - size t
-  unfolding size
-  left-variable e = rw e
-
-  module _ {p q : Term} {a r : ℕ} (ea : a ≡ (left - 1) - size p) (er : r ≡ a - size q) where
-    pub left-sum : t ≡ sum p q → r ≡ left - size t
-    unfolding size
-    left-sum e = rw e (omega arith)
-
-    pub left-difference : t ≡ difference p q → r ≡ left - size t
-    unfolding size
-    left-difference e = rw e (omega arith)
-
-pub small-of : {r : ℕ} (n : ℕ) → r ≡ 256 - n → ltb 0 r ≡ leb n 255
-small-of {r} n e = go (decLt 0 r)
-  where
-    go : Dec (0 < r) → ltb 0 r ≡ leb n 255
-    go (yes h) = rw (lt-ltb 0 r h, le-leb n 255 (omega arith))
-    go (no h) = rw (le-ltb 0 r (omega arith), lt-leb n 255 (omega arith))

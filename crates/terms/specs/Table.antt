@@ -1,27 +1,46 @@
--- The term table: node i lies in three words, a tag and two words x and y. Assumes nothing.
+-- The term table: node i lies in three words: its parts, its value and its marks. Assumes nothing.
 use mathlib.Core.Path.{_≡_}
+use mathlib.Core.Logic.{_⊎_}
+use mathlib.Core.Bool.{Bool, true, false}
 use mathlib.Core.List.{List, [], _∷_, _++_}
-use Prim.Native.Nat.{ℕ, zero, suc, _+_, _*_, _<_, _≤_}
+use Prim.Native.Nat.{ℕ, zero, suc, _+_, _-_, _*_, _/_, _%_, _<_, _≤_}
 use lib.ListN.{length, getD}
-use Rattle.model.specs.Term.{Term, constant, variable, sum, difference}
-use Rattle.terms.specs.Workspace.{workspaceWords, mostVariables, tableBase, mostTableNodes, Same}
+use Rattle.model.specs.Term.{Term, constant, variable, sum, difference, eval, size, closed}
+use Rattle.terms.specs.Workspace.{workspaceWords, mostVariables, tableBase, mostTableNodes, hintBase, Same}
 use Rattle.terms.specs.declared.Node.{Node}
 use Rattle.terms.specs.declared.Node.the-variants.{Constant, Variable, Sum, Difference}
+
+-- the lower and the upper half of a word
+abbrev pub low : ℕ → ℕ
+low w = w % 65536
+
+abbrev pub high : ℕ → ℕ
+high w = w / 65536
 
 -- where node i lies
 abbrev pub place : ℕ → ℕ
 place i = tableBase + 3 * i
 
--- the node that a tag and two words say
-abbrev pub nodeOfTag : (tag x y : ℕ) → Node
-nodeOfTag zero x y = Constant x
-nodeOfTag (suc zero) x y = Variable x
-nodeOfTag (suc (suc zero)) x y = Sum x y
-nodeOfTag (suc (suc (suc t))) x y = Difference x y
+-- the three words of node i
+abbrev pub partsAt : List ℕ → ℕ → ℕ
+partsAt ws i = getD ws (place i) 0
 
--- node i of the words ws
+abbrev pub valueAt : List ℕ → ℕ → ℕ
+valueAt ws i = getD ws (place i + 1) 0
+
+abbrev pub marksAt : List ℕ → ℕ → ℕ
+marksAt ws i = getD ws (place i + 2) 0
+
+-- the node that a tag, parts and a value say
+abbrev pub nodeOfTag : (tag parts value : ℕ) → Node
+nodeOfTag zero p v = Constant v
+nodeOfTag (suc zero) p v = Variable p
+nodeOfTag (suc (suc zero)) p v = Sum (low p) (high p)
+nodeOfTag (suc (suc (suc t))) p v = Difference (low p) (high p)
+
+-- node i of the words ws: the tag is the marks' remainder by 4
 unfoldable pub viewOf : List ℕ → ℕ → Node
-viewOf ws i = nodeOfTag (getD ws (place i) 0) (getD ws (place i + 1) 0) (getD ws (place i + 2) 0)
+viewOf ws i = nodeOfTag (marksAt ws i % 4) (partsAt ws i) (valueAt ws i)
 
 -- the term of a node, where f gives the terms of its parts
 abbrev pub build : (ℕ → Term) → Node → Term
@@ -46,10 +65,41 @@ InOrder i (Variable v) = v < mostVariables
 InOrder i (Sum l r) = (l < i) × (r < i)
 InOrder i (Difference l r) = (l < i) × (r < i)
 
--- the first top nodes lie within the words, and each is in order
+-- ---- what is kept beside a node, so that no walk is needed
+abbrev pub tagOfTerm : Term → ℕ
+tagOfTerm (constant c) = 0
+tagOfTerm (variable v) = 1
+tagOfTerm (sum s t) = 2
+tagOfTerm (difference s t) = 3
+
+abbrev pub bit : Bool → ℕ
+bit true = 1
+bit false = 0
+
+-- a size, or 256 if it is more
+abbrev pub capped : ℕ → ℕ
+capped n = 256 - (256 - n)
+
+-- the facts of a term: its tag, whether it is closed, and its size
+unfoldable pub factsOf : Term → ℕ
+factsOf t = tagOfTerm t + 4 * bit (closed t) + 8 * capped (size t)
+
+-- the value of a closed term; 0 for others
+unfoldable pub valueOf : Term → ℕ
+valueOf t = bit (closed t) * eval (λ v. 0) t
+
+-- node i's value and marks are right: the marks' lower half are its term's facts, the upper half is a node, i or before it, of the same term
+pub record Known (ws : List ℕ) (i : ℕ) : Type 0 where
+  pub facts : low (marksAt ws i) ≡ factsOf (termAt ws i)
+  pub value : valueAt ws i ≡ valueOf (termAt ws i)
+  pub before : high (marksAt ws i) ≤ i
+  pub twin : termAt ws (high (marksAt ws i)) ≡ termAt ws i
+
+-- the first top nodes lie within the words, each is in order, and what is kept beside it is right
 pub record Formed (ws : List ℕ) (top : ℕ) : Type 0 where
   pub room : place top ≤ length ws
   pub nodes : (i : ℕ) → i < top → InOrder i (viewOf ws i)
+  pub known : (i : ℕ) → i < top → Known ws i
 
 -- room for n more nodes above top
 pub record Space (ws : List ℕ) (top n : ℕ) : Type 0 where
@@ -61,3 +111,17 @@ pub record Put (ws us : List ℕ) (top : ℕ) (t : Term) : Type 0 where
   pub kept : Same 0 (place top) ws us
   pub formed : Formed us (suc top)
   pub is : termAt us top ≡ t
+
+-- the words of a new node fit the table: its parts are before it, and its facts and value are its term's
+abbrev pub termOf : (ws : List ℕ) (parts value facts : ℕ) → Term
+termOf ws parts value facts = build (termAt ws) (nodeOfTag (facts % 4) parts value)
+
+pub record Fits (ws : List ℕ) (top parts value facts : ℕ) : Type 0 where
+  pub order : InOrder top (nodeOfTag (facts % 4) parts value)
+  pub facts-are : facts ≡ factsOf (termOf ws parts value facts)
+  pub value-is : value ≡ valueOf (termOf ws parts value facts)
+
+-- the node for these words: one before top that has them, or top itself; of the words only a hint is changed
+pub record Twinned (ws us : List ℕ) (top parts value facts n : ℕ) : Type 0 where
+  pub kept : Same 0 hintBase ws us
+  pub found : (n ≡ top) ⊎ ((n < top) × (viewOf ws n ≡ nodeOfTag (facts % 4) parts value))

@@ -12,7 +12,7 @@ workspaceWords = 16384
 abbrev pub mostVariables : ℕ
 mostVariables = 1024
 
--- from here: the assumptions, three words each
+-- from here: the assumptions, one word each
 abbrev pub assumptionBase : ℕ
 assumptionBase = 1024
 
@@ -21,10 +21,17 @@ mostAssumptions = 533
 
 -- from here: the nodes of the term table, three words each
 abbrev pub tableBase : ℕ
-tableBase = 2624
+tableBase = 1560
 
 abbrev pub mostTableNodes : ℕ
 mostTableNodes = 4586
+
+-- from here: the hints, which say where a node with certain words may be found; nothing is promised of them
+abbrev pub hintBase : ℕ
+hintBase = 15360
+
+abbrev pub hints : ℕ
+hints = 1024
 
 -- the words from lo up to, not including, hi are as they were
 pub record Same (lo hi : ℕ) (ws us : List ℕ) : Type 0 where

@@ -1,15 +1,18 @@
-// The term table in the lent workspace: node i lies in the three words from TABLE + 3 * i, a tag and two words.
+// The term table in the lent workspace: node i lies in the three words from TABLE + 3 * i: its parts, its value and its marks. Beside each
+// node stand the facts that other walks would look for: its tag, its size, its value where it is closed, and an earlier node of the same
+// term where one is known.
 pub mod reader;
 
 ghost use mathlib.Core.Path.{_≡_};
-ghost use Prim.Native.Nat.{suc, _+_, _-_, _*_, _≤_, _<_};
+ghost use mathlib.Core.Bool.{_&&_};
+ghost use Prim.Native.Nat.{suc, _+_, _-_, _*_, _/_, _%_, _≤_, _<_};
 ghost use lib.ListN.{length};
-ghost use lib.Dec.{leb};
-ghost use Rattle.model.specs.Word.{addW, subW};
-ghost use Rattle.model.specs.Term.{constant, variable, sum, difference, eqTerm, size};
-ghost use Rattle.terms.specs.Workspace.{mostVariables, stored};
-ghost use Rattle.terms.specs.Table.{viewOf, termAt, place, Formed, Space, Put};
-ghost use Rattle.terms.specs.Closed.{closedValue, bothValues};
+ghost use lib.Dec.{eqb, leb};
+ghost use Rattle.model.specs.Term.{constant, variable, sum, difference, eqTerm, size as sizeOf};
+ghost use Rattle.terms.specs.Workspace.{mostVariables, hintBase, hints, stored};
+ghost use Rattle.terms.specs.Table.{low as lowOf, high as highOf, partsAt, valueAt, marksAt, viewOf, termAt, termOf, capped, valueOf, factsOf, place, Formed, Space, Put, Fits, Twinned};
+ghost use Rattle.terms.specs.Reader.{operationOf};
+ghost use Rattle.terms.specs.Closed.{closedValue};
 
 // A node of the table: a sum and a difference name their parts by node number.
 pub enum Node {
@@ -26,7 +29,56 @@ pub enum Closed {
 }
 
 // Where the table begins.
-const TABLE: usize = 2624;
+const TABLE: usize = 1560;
+
+// Where the hints begin.
+const HINTS: usize = 15360;
+
+// ---- words
+
+// The lower half of a word.
+fn low(w: u32) -> u32
+    ensures { λ r. ⌜ (r ≡ lowOf w) × (r < 65536) ⌝ }
+{
+    w % 65536
+}
+
+// The upper half of a word.
+fn high(w: u32) -> usize
+    ensures { λ r. ⌜ (r ≡ highOf w) × (r < 65536) ⌝ }
+{
+    fields::wide(w / 65536)
+}
+
+// The marks of node i.
+fn marks(ws: &[u32], i: usize) -> u32
+    requires { ⌜ Formed (now ws) (suc i) ⌝ }
+    ensures { λ r. ⌜ r ≡ marksAt (now (ws .entry)) i ⌝ }
+{
+    ws[TABLE + 3 * i + 2]
+}
+
+// The value of node i: 0 where it is not closed.
+fn value(ws: &[u32], i: usize) -> u32
+    requires { ⌜ Formed (now ws) (suc i) ⌝ }
+    ensures { λ r. ⌜ r ≡ valueAt (now (ws .entry)) i ⌝ }
+{
+    ws[TABLE + 3 * i + 1]
+}
+
+// 1 for the marks of a closed term, 0 for others.
+fn is_closed(marks: u32) -> u32
+    ensures { λ r. ⌜ (r ≡ marks / 4 % 2) × (r < 2) ⌝ }
+{
+    marks / 4 % 2
+}
+
+// The size in marks: 256 if it is more.
+fn size(marks: u32) -> u32
+    ensures { λ r. ⌜ (r ≡ lowOf marks / 8) × (r < 8192) ⌝ }
+{
+    low(marks) / 8
+}
 
 // Node i.
 pub fn view(ws: &[u32], i: usize) -> Node
@@ -34,19 +86,21 @@ pub fn view(ws: &[u32], i: usize) -> Node
     ensures { λ r. ⌜ r ≡ viewOf (now (ws .entry)) i ⌝ }
 {
     let at = TABLE + 3 * i;
-    let tag = ws[at];
-    let x = ws[at + 1];
-    let y = ws[at + 2];
+    let parts = ws[at];
+    let value = ws[at + 1];
+    let tag = ws[at + 2] % 4;
     match tag {
-        0 => Node::Constant(x),
-        1 => Node::Variable(x),
-        2 => Node::Sum(fields::wide(x), fields::wide(y)),
-        _ => Node::Difference(fields::wide(x), fields::wide(y)),
+        0 => Node::Constant(value),
+        1 => Node::Variable(parts),
+        2 => Node::Sum(fields::wide(low(parts)), high(parts)),
+        _ => Node::Difference(fields::wide(low(parts)), high(parts)),
     }
 }
 
+// ---- new nodes
+
 // Stores three words at a place.
-pub fn store(ws: &mut [u32], at: usize, a: u32, b: u32, c: u32)
+fn store(ws: &mut [u32], at: usize, a: u32, b: u32, c: u32)
     requires { ⌜ at + 3 ≤ length (now ws) ⌝ }
     ensures { λ _. ⌜ now (ws .exit) ≡ stored (now (ws .entry)) at a b c ⌝ }
 {
@@ -55,12 +109,57 @@ pub fn store(ws: &mut [u32], at: usize, a: u32, b: u32, c: u32)
     ws[at + 2] = c;
 }
 
-// Stores the three words of node top.
-fn put(ws: &mut [u32], top: usize, tag: u32, x: u32, y: u32)
-    requires { ⌜ Space (now ws) top 1 ⌝ }
-    ensures { λ _. ⌜ now (ws .exit) ≡ stored (now (ws .entry)) (place top) tag x y ⌝ }
+// Where the hint for a node's words stands.
+fn slot(parts: u32, value: u32, facts: u32) -> usize
+    ensures { λ r. ⌜ (hintBase ≤ r) × (r < hintBase + hints) ⌝ }
 {
-    store(ws, TABLE + 3 * top, tag, x, y);
+    let x = (parts as u64) * 40503 + (value as u64) * 60493 + (facts as u64) * 9973;
+    let mixed = (x / 65536 + x) % 1024;
+    HINTS + (mixed as usize)
+}
+
+// Whether node n has these parts, this value and these facts.
+fn repeats(ws: &[u32], n: usize, parts: u32, value: u32, facts: u32) -> bool
+    requires { ⌜ Formed (now ws) (suc n) ⌝ }
+    ensures { λ r. ⌜ r ≡ (eqb (partsAt (now (ws .entry)) n) parts && eqb (valueAt (now (ws .entry)) n) value && eqb (lowOf (marksAt (now (ws .entry)) n)) facts) ⌝ }
+{
+    let at = TABLE + 3 * n;
+    (ws[at] == parts) & (ws[at + 1] == value) & (low(ws[at + 2]) == facts)
+}
+
+// The node for these words: the one that the hint names, if it has them, else top, and the hint then names it.
+fn find(ws: &mut [u32], top: usize, parts: u32, value: u32, facts: u32) -> usize
+    requires { ⌜ Formed (now ws) top ⌝ }
+    requires { ⌜ Space (now ws) top 1 ⌝ }
+    ensures { λ r. ⌜ Twinned (now (ws .entry)) (now (ws .exit)) top parts value facts r ⌝ }
+{
+    let at = slot(parts, value, facts);
+    let hinted = fields::wide(ws[at]);
+    if hinted < top {
+        if repeats(ws, hinted, parts, value, facts) {
+            return hinted;
+        }
+    }
+    ws[at] = top as u32;
+    top
+}
+
+// Stores the words of node top.
+fn put(ws: &mut [u32], top: usize, parts: u32, value: u32, facts: u32)
+    requires { ⌜ Formed (now ws) top ⌝ }
+    requires { ⌜ Space (now ws) top 1 ⌝ }
+    requires { ⌜ Fits (now ws) top parts value facts ⌝ }
+    requires { ⌜ facts < 65536 ⌝ }
+    ensures { λ _. ⌜ Put (now (ws .entry)) (now (ws .exit)) top (termOf (now (ws .entry)) parts value facts) ⌝ }
+{
+    let first = find(ws, top, parts, value, facts);
+    store(
+        ws,
+        TABLE + 3 * top,
+        parts,
+        value,
+        facts + 65536 * (first as u32),
+    );
 }
 
 // Puts a constant at node top.
@@ -69,7 +168,7 @@ pub fn put_constant(ws: &mut [u32], top: usize, value: u32)
     requires { ⌜ Space (now ws) top 1 ⌝ }
     ensures { λ _. ⌜ Put (now (ws .entry)) (now (ws .exit)) top (constant value) ⌝ }
 {
-    put(ws, top, 0, value, 0);
+    put(ws, top, 0, value, 12);
 }
 
 // Puts a variable at node top.
@@ -79,7 +178,61 @@ pub fn put_variable(ws: &mut [u32], top: usize, number: u32)
     requires { ⌜ number < mostVariables ⌝ }
     ensures { λ _. ⌜ Put (now (ws .entry)) (now (ws .exit)) top (variable number) ⌝ }
 {
-    put(ws, top, 1, number, 0);
+    put(ws, top, number, 0, 9);
+}
+
+// A size, or 256 if it is more.
+fn at_most_256(size: u32) -> u32
+    ensures { λ r. ⌜ (r ≡ capped size) × (r ≤ 256) ⌝ }
+{
+    if 256 < size {
+        return 256;
+    }
+    size
+}
+
+// The facts of a pair, by its tag and the marks of its parts.
+fn joined(tag: u32, a: u32, b: u32) -> u32
+    requires { ⌜ tag < 4 ⌝ }
+    ensures { λ r. ⌜ (r ≡ tag + 4 * ((a / 4 % 2) * (b / 4 % 2)) + 8 * capped (lowOf a / 8 + lowOf b / 8 + 1)) × (r < 65536) ⌝ }
+{
+    let size = at_most_256(size(a) + size(b) + 1);
+    tag + 4 * (is_closed(a) * is_closed(b)) + 8 * size
+}
+
+// The value of the sum, for tag 2, or the difference, for tag 3, of two nodes: 0 where it is not closed.
+fn computed(ws: &[u32], tag: u32, left: usize, right: usize) -> u32
+    requires { ⌜ Formed (now ws) (suc left) ⌝ }
+    requires { ⌜ Formed (now ws) (suc right) ⌝ }
+    requires { ⌜ (1 < tag) × (tag < 4) ⌝ }
+    ensures { λ r. ⌜ r ≡ valueOf (operationOf tag (termAt (now (ws .entry)) left) (termAt (now (ws .entry)) right)) ⌝ }
+{
+    if is_closed(marks(ws, left)) * is_closed(marks(ws, right)) == 0 {
+        return 0;
+    }
+    let a = value(ws, left);
+    let b = value(ws, right);
+    if tag == 2 {
+        fields::add(a, b)
+    } else {
+        fields::sub(a, b)
+    }
+}
+
+// Puts the sum, for tag 2, or the difference, for tag 3, of two nodes at node top.
+fn put_pair(ws: &mut [u32], top: usize, tag: u32, left: usize, right: usize)
+    requires { ⌜ Formed (now ws) top ⌝ }
+    requires { ⌜ Space (now ws) top 1 ⌝ }
+    requires { ⌜ (left < top) × (right < top) ⌝ }
+    requires { ⌜ (1 < tag) × (tag < 4) ⌝ }
+    ensures { λ _. ⌜ Put (now (ws .entry)) (now (ws .exit)) top (operationOf tag (termAt (now (ws .entry)) left) (termAt (now (ws .entry)) right)) ⌝ }
+{
+    let a = marks(ws, left);
+    let b = marks(ws, right);
+    let value = computed(ws, tag, left, right);
+    let facts = joined(tag, a, b);
+    let parts = high(a) + 65536 * high(b);
+    put(ws, top, parts as u32, value, facts);
 }
 
 // Puts the sum of two nodes at node top.
@@ -89,7 +242,7 @@ pub fn put_sum(ws: &mut [u32], top: usize, left: usize, right: usize)
     requires { ⌜ (left < top) × (right < top) ⌝ }
     ensures { λ _. ⌜ Put (now (ws .entry)) (now (ws .exit)) top (sum (termAt (now (ws .entry)) left) (termAt (now (ws .entry)) right)) ⌝ }
 {
-    put(ws, top, 2, left as u32, right as u32);
+    put_pair(ws, top, 2, left, right);
 }
 
 // Puts the difference of two nodes at node top.
@@ -99,17 +252,40 @@ pub fn put_difference(ws: &mut [u32], top: usize, left: usize, right: usize)
     requires { ⌜ (left < top) × (right < top) ⌝ }
     ensures { λ _. ⌜ Put (now (ws .entry)) (now (ws .exit)) top (difference (termAt (now (ws .entry)) left) (termAt (now (ws .entry)) right)) ⌝ }
 {
-    put(ws, top, 3, left as u32, right as u32);
+    put_pair(ws, top, 3, left, right);
 }
 
-// Whether nodes i and j have the same term: at once where they are the same node.
+// ---- terms
+
+// Whether the same node stands for the terms of nodes i and j.
+pub fn twins(ws: &[u32], i: usize, j: usize) -> bool
+    requires { ⌜ Formed (now ws) (suc i) ⌝ }
+    requires { ⌜ Formed (now ws) (suc j) ⌝ }
+    ensures { λ r. ⌜ r ≡ eqb (highOf (marksAt (now (ws .entry)) i)) (highOf (marksAt (now (ws .entry)) j)) ⌝ }
+{
+    high(marks(ws, i)) == high(marks(ws, j))
+}
+
+// Whether the terms of nodes i and j have the same facts.
+fn alike(ws: &[u32], i: usize, j: usize) -> bool
+    requires { ⌜ Formed (now ws) (suc i) ⌝ }
+    requires { ⌜ Formed (now ws) (suc j) ⌝ }
+    ensures { λ r. ⌜ r ≡ eqb (lowOf (marksAt (now (ws .entry)) i)) (lowOf (marksAt (now (ws .entry)) j)) ⌝ }
+{
+    low(marks(ws, i)) == low(marks(ws, j))
+}
+
+// Whether nodes i and j have the same term: at once where the same node stands for both, or where their facts differ.
 pub fn same(ws: &[u32], i: usize, j: usize) -> bool
     requires { ⌜ Formed (now ws) (suc i) ⌝ }
     requires { ⌜ Formed (now ws) (suc j) ⌝ }
     ensures { λ r. ⌜ r ≡ eqTerm (termAt (now (ws .entry)) i) (termAt (now (ws .entry)) j) ⌝ }
 {
-    if i == j {
+    if twins(ws, i, j) {
         return true;
+    }
+    if !alike(ws, i, j) {
+        return false;
     }
     let other = view(ws, j);
     match view(ws, i) {
@@ -140,65 +316,22 @@ pub fn same(ws: &[u32], i: usize, j: usize) -> bool
     }
 }
 
-// The sum of two values.
-fn added(a: Closed, b: Closed) -> Closed
-    ensures { λ r. ⌜ r ≡ bothValues addW a b ⌝ }
-{
-    let Closed::Value(x) = a else {
-        return a;
-    };
-    let Closed::Value(y) = b else {
-        return b;
-    };
-    Closed::Value(fields::add(x, y))
-}
-
-// The difference of two values.
-fn subtracted(a: Closed, b: Closed) -> Closed
-    ensures { λ r. ⌜ r ≡ bothValues subW a b ⌝ }
-{
-    let Closed::Value(x) = a else {
-        return a;
-    };
-    let Closed::Value(y) = b else {
-        return b;
-    };
-    Closed::Value(fields::sub(x, y))
-}
-
 // The value of node i's term where it has no variable.
 pub fn evaluate(ws: &[u32], i: usize) -> Closed
     requires { ⌜ Formed (now ws) (suc i) ⌝ }
     ensures { λ r. ⌜ r ≡ closedValue (termAt (now (ws .entry)) i) ⌝ }
 {
-    match view(ws, i) {
-        Node::Constant(c) => Closed::Value(c),
-        Node::Variable(_) => Closed::Open,
-        Node::Sum(l, r) => added(evaluate(ws, l), evaluate(ws, r)),
-        Node::Difference(l, r) => subtracted(evaluate(ws, l), evaluate(ws, r)),
-    }
-}
-
-// What is left of a number of nodes once those of node i's term are taken from it; no more are visited than there were.
-fn remaining(ws: &[u32], i: usize, left: usize) -> usize
-    requires { ⌜ Formed (now ws) (suc i) ⌝ }
-    ensures { λ r. ⌜ r ≡ left - size (termAt (now (ws .entry)) i) ⌝ }
-{
-    if left == 0 {
-        return 0;
-    }
-    match view(ws, i) {
-        Node::Constant(_) => left - 1,
-        Node::Variable(_) => left - 1,
-        Node::Sum(l, r) => remaining(ws, r, remaining(ws, l, left - 1)),
-        Node::Difference(l, r) => remaining(ws, r, remaining(ws, l, left - 1)),
+    if is_closed(marks(ws, i)) == 1 {
+        Closed::Value(value(ws, i))
+    } else {
+        Closed::Open
     }
 }
 
 // Whether node i's term has at most 255 nodes.
 pub fn small(ws: &[u32], i: usize) -> bool
     requires { ⌜ Formed (now ws) (suc i) ⌝ }
-    ensures { λ r. ⌜ r ≡ leb (size (termAt (now (ws .entry)) i)) 255 ⌝ }
+    ensures { λ r. ⌜ r ≡ leb (sizeOf (termAt (now (ws .entry)) i)) 255 ⌝ }
 {
-    0 < remaining(ws, i, 256)
+    size(marks(ws, i)) <= 255
 }

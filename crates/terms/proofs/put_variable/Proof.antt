@@ -1,16 +1,18 @@
-use Rattle.terms.proofs.Table.{put-node}
+use Rattle.terms.proofs.Walks.{fits-variable}
+use native.Mathlib.Omega.{arith}
 use borrow.Author.Needs.{needs}
 use Rattle.terms.proofs.put_variable.Statement.{statement}
 use Rattle.terms.proofs.put_variable.Tie as tie
+use Rattle.terms.proofs.put_variable.Reads as reads
 
 put-requires : tie.Need-put-requires
-put-requires c κs = search needs
+put-requires c κs = (c .before .before .pre .0, (c .before .before .pre .1 .0, (fits-variable _ _ (c .before .before .pre .1 .1), omega arith)))
 
 same-length : tie.Need-same-length
 same-length c = search needs
 
 returns : tie.Need-returns
-returns c = put-node _ 1 _ _ (c .before .before .put .ensures) (c .before .before .before .before .before .pre .1 .0) (c .before .before .before .before .before .pre .0) (c .before .before .before .before .before .pre .1 .1)
+returns c = search needs
 
 pub put-variable-spec : {M : Type 1} → statement M
 put-variable-spec = tie.close (tie.spec put-requires same-length returns)
