@@ -275,8 +275,8 @@ fn alike(ws: &[u32], i: usize, j: usize) -> bool
     low(marks(ws, i)) == low(marks(ws, j))
 }
 
-// Whether nodes i and j have the same term: at once where the same node stands for both, or where their facts differ.
-pub fn same(ws: &[u32], i: usize, j: usize) -> bool
+// Whether nodes i and j have the same term, node by node: at once where the same node stands for both, or where their facts differ.
+fn equal(ws: &[u32], i: usize, j: usize) -> bool
     requires { ⌜ Formed (now ws) (suc i) ⌝ }
     requires { ⌜ Formed (now ws) (suc j) ⌝ }
     ensures { λ r. ⌜ r ≡ eqTerm (termAt (now (ws .entry)) i) (termAt (now (ws .entry)) j) ⌝ }
@@ -298,22 +298,34 @@ pub fn same(ws: &[u32], i: usize, j: usize) -> bool
             _ => false,
         },
         Node::Sum(a, b) => match other {
-            Node::Sum(c, d) => if same(ws, a, c) {
-                same(ws, b, d)
+            Node::Sum(c, d) => if equal(ws, a, c) {
+                equal(ws, b, d)
             } else {
                 false
             },
             _ => false,
         },
         Node::Difference(a, b) => match other {
-            Node::Difference(c, d) => if same(ws, a, c) {
-                same(ws, b, d)
+            Node::Difference(c, d) => if equal(ws, a, c) {
+                equal(ws, b, d)
             } else {
                 false
             },
             _ => false,
         },
     }
+}
+
+// Whether nodes i and j have the same term.
+pub fn same(ws: &[u32], i: usize, j: usize) -> bool
+    requires { ⌜ Formed (now ws) (suc i) ⌝ }
+    requires { ⌜ Formed (now ws) (suc j) ⌝ }
+    ensures { λ r. ⌜ r ≡ eqTerm (termAt (now (ws .entry)) i) (termAt (now (ws .entry)) j) ⌝ }
+{
+    if twins(ws, i, j) {
+        return true;
+    }
+    equal(ws, i, j)
 }
 
 // The value of node i's term where it has no variable.

@@ -13,9 +13,9 @@ ghost use Rattle.terms.specs.Reader.{operationOf, kindOf, unreadOf, atom
 // fault at a position.
 pub enum Parse {
     Term {
-        number: usize,
+        number: u32,
         next: usize,
-        left: usize,
+        left: u32,
         top: usize,
     },
     Missing,
@@ -43,7 +43,7 @@ fn read_constant(
     limit: usize,
     registers: [u32; 16],
     at: usize,
-    left: usize,
+    left: u32,
     top: usize,
 ) -> Parse
     requires { ⌜ (at < end) × (end ≤ length (now bytes)) × (0 < left) ⌝ }
@@ -55,7 +55,7 @@ fn read_constant(
     }
     crate::put_constant(ws, top, fields::word(bytes, at + 1));
     Parse::Term {
-        number: top,
+        number: top as u32,
         next: at + 5,
         left: left - 1,
         top: top + 1,
@@ -70,7 +70,7 @@ fn read_variable(
     limit: usize,
     registers: [u32; 16],
     at: usize,
-    left: usize,
+    left: u32,
     top: usize,
 ) -> Parse
     requires { ⌜ (at < end) × (end ≤ length (now bytes)) × (0 < left) ⌝ }
@@ -87,7 +87,7 @@ fn read_variable(
     }
     if v < 16 {
         return Parse::Term {
-            number: fields::wide(registers[v]),
+            number: registers[v],
             next: at + 3,
             left: left - 1,
             top,
@@ -95,7 +95,7 @@ fn read_variable(
     }
     crate::put_variable(ws, top, v as u32);
     Parse::Term {
-        number: top,
+        number: top as u32,
         next: at + 3,
         left: left - 1,
         top: top + 1,
@@ -103,18 +103,20 @@ fn read_variable(
 }
 
 // Puts the sum, for tag 2, or the difference, for tag 3, of two nodes at node top.
-fn put_pair(ws: &mut [u32], top: usize, tag: u8, left: usize, right: usize)
+fn put_pair(ws: &mut [u32], top: usize, tag: u8, left: u32, right: u32)
     requires { ⌜ Formed (now ws) top ⌝ }
     requires { ⌜ Space (now ws) top 1 ⌝ }
     requires { ⌜ (left < top) × (right < top) ⌝ }
     requires { ⌜ (1 < tag) × (tag < 4) ⌝ }
     ensures { λ _. ⌜ Put (now (ws .entry)) (now (ws .exit)) top (operationOf tag (termAt (now (ws .entry)) left) (termAt (now (ws .entry)) right)) ⌝ }
 {
+    let a = fields::wide(left);
+    let b = fields::wide(right);
     if tag == 2 {
-        crate::put_sum(ws, top, left, right);
+        crate::put_sum(ws, top, a, b);
         return;
     }
-    crate::put_difference(ws, top, left, right);
+    crate::put_difference(ws, top, a, b);
 }
 
 // The sum, for tag 2, or the difference, for tag 3, at `at`: two expressions after the tag.
@@ -125,7 +127,7 @@ fn read_pair(
     limit: usize,
     registers: [u32; 16],
     at: usize,
-    left: usize,
+    left: u32,
     top: usize,
     tag: u8,
 ) -> Parse
@@ -155,7 +157,7 @@ fn read_pair(
             } => {
                 put_pair(ws, high, tag, a, b);
                 Parse::Term {
-                    number: high,
+                    number: high as u32,
                     next: after,
                     left: last,
                     top: high + 1,
@@ -173,7 +175,7 @@ fn read(
     limit: usize,
     registers: [u32; 16],
     at: usize,
-    left: usize,
+    left: u32,
     top: usize,
 ) -> Parse
     requires { ⌜ (end ≤ length (now bytes)) × (limit ≤ mostVariables) ⌝ }
@@ -290,8 +292,8 @@ pub fn atom(
     };
     AtomParse::Atom {
         kind: comparison(tag as u32),
-        left,
-        right,
+        left: fields::wide(left),
+        right: fields::wide(right),
         next: after,
         top: high,
     }

@@ -118,8 +118,11 @@ module _ (t : ℕ) where
   pair-put-pair-requires : pair-lts.Need-put-pair-requires (pair-R t) (pair-given t) pair-it.Post
   pair-put-pair-requires c κs = put-asked _ (c .before .before .before .before .before .before .before .before .before .before .before .before .before .before .before .before .before .pre .1) (c .before .before .before .before .before .before .before .before .before .before .before .before .before .read .ensures) (c .before .before .before .before .before .before .before .before .before .a .given .1) (c .before .before .before .before .before .before .before .before .before .before .before .before .before .read .kept .1 .0) (c .before .before .before .before .before .before .read2 .ensures) (c .before .before .b .given .1) (c .before .before .before .before .before .before .read2 .kept .1 .0)
 
-  pair-add-t33 : pair-lts.Need-add-t33 (pair-R t) (pair-given t) pair-it.Post
-  pair-add-t33 c = omega (arith, put-asked _ (c .before .before .before .before .before .before .before .before .before .before .before .before .before .before .before .before .before .before .before .before .pre .1) (c .before .before .before .before .before .before .before .before .before .before .before .before .before .before .before .before .read .ensures) (c .before .before .before .before .before .before .before .before .before .before .before .before .a .given .1) (c .before .before .before .before .before .before .before .before .before .before .before .before .before .before .before .before .read .kept .1 .0) (c .before .before .before .before .before .before .before .before .before .read2 .ensures) (c .before .before .before .before .before .b .given .1) (c .before .before .before .before .before .before .before .before .before .read2 .kept .1 .0) .1 .0 .fits)
+  pair-cast-t33 : pair-lts.Need-cast-t33 (pair-R t) (pair-given t) pair-it.Post
+  pair-cast-t33 c = omega (arith, put-asked _ (c .before .before .before .before .before .before .before .before .before .before .before .before .before .before .before .before .before .before .before .before .pre .1) (c .before .before .before .before .before .before .before .before .before .before .before .before .before .before .before .before .read .ensures) (c .before .before .before .before .before .before .before .before .before .before .before .before .a .given .1) (c .before .before .before .before .before .before .before .before .before .before .before .before .before .before .before .before .read .kept .1 .0) (c .before .before .before .before .before .before .before .before .before .read2 .ensures) (c .before .before .before .before .before .b .given .1) (c .before .before .before .before .before .before .before .before .before .read2 .kept .1 .0) .1 .0 .fits)
+
+  pair-add-t34 : pair-lts.Need-add-t34 (pair-R t) (pair-given t) pair-it.Post
+  pair-add-t34 c = omega (arith, put-asked _ (c .before .before .before .before .before .before .before .before .before .before .before .before .before .before .before .before .before .before .before .before .pre .1) (c .before .before .before .before .before .before .before .before .before .before .before .before .before .before .before .before .read .ensures) (c .before .before .before .before .before .before .before .before .before .before .before .before .a .given .1) (c .before .before .before .before .before .before .before .before .before .before .before .before .before .before .before .before .read .kept .1 .0) (c .before .before .before .before .before .before .before .before .before .read2 .ensures) (c .before .before .before .before .before .b .given .1) (c .before .before .before .before .before .before .before .before .before .read2 .kept .1 .0) .1 .0 .fits)
 
   pair-same-length : pair-lts.Need-same-length (pair-R t) (pair-given t) pair-it.Post
   pair-same-length c = search needs
@@ -152,4 +155,4 @@ module _ (t : ℕ) where
   pair-returns-5 c = pair-read _ (c .before .before .before .before .before .before .before .before .before .before .before .before .before .before .before .before .before .before .before .before .pre .1) (c .before .before .before .before .before .before .before .before .before .before .before .before .before .before .before .before .read .ensures) (c .before .before .before .before .before .before .before .before .before .before .before .before .a .given .1) (c .before .before .before .before .before .before .before .before .before .before .before .before .before .before .before .before .read .kept .1 .0) (c .before .before .before .before .before .before .before .before .before .read2 .ensures) (c .before .before .before .before .before .b .given .1) (c .before .before .put-pair .ensures)
 
 pub +read+read-pair-spec : {M : Type 1} → statement M
-+read+read-pair-spec = close μ pair-μ (λ t. lts.spec (R t) (given t) it.Post (returns t) (returns-2 t) (shared-slice-read-tag t) (read-constant-requires t) (read-variable-requires t) (read-pair-requires t) (same-length t) (returns-3 t) (same-length-2 t) (returns-4 t) (same-length-3 t) (returns-5 t) (returns-6 t)) (λ t. pair-lts.spec (pair-R t) (pair-given t) pair-it.Post (pair-add-start t) (pair-sub-read t) (pair-read-requires t) (pair-enum-told t) (pair-enum-known-p t) (pair-enum-known-a t) (pair-read-requires-2 t) (pair-enum-told-2 t) (pair-enum-known-p-2 t) (pair-enum-known-b t) (pair-put-pair-requires t) (pair-add-t33 t) (pair-same-length t) (pair-returns t) (pair-same-length-2 t) (pair-returns-2 t) (pair-same-length-3 t) (pair-returns-3 t) (pair-same-length-4 t) (pair-returns-4 t) (pair-same-length-5 t) (pair-returns-5 t))
++read+read-pair-spec = close μ pair-μ (λ t. lts.spec (R t) (given t) it.Post (returns t) (returns-2 t) (shared-slice-read-tag t) (read-constant-requires t) (read-variable-requires t) (read-pair-requires t) (same-length t) (returns-3 t) (same-length-2 t) (returns-4 t) (same-length-3 t) (returns-5 t) (returns-6 t)) (λ t. pair-lts.spec (pair-R t) (pair-given t) pair-it.Post (pair-add-start t) (pair-sub-read t) (pair-read-requires t) (pair-enum-told t) (pair-enum-known-p t) (pair-enum-known-a t) (pair-read-requires-2 t) (pair-enum-told-2 t) (pair-enum-known-p-2 t) (pair-enum-known-b t) (pair-put-pair-requires t) (pair-cast-t33 t) (pair-add-t34 t) (pair-same-length t) (pair-returns t) (pair-same-length-2 t) (pair-returns-2 t) (pair-same-length-3 t) (pair-returns-3 t) (pair-same-length-4 t) (pair-returns-4 t) (pair-same-length-5 t) (pair-returns-5 t))

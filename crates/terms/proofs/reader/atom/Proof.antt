@@ -1,7 +1,7 @@
 use Rattle.terms.proofs.Atoms.{told-expression, atom-read-missing, atom-read-unknown, atom-left-refused, atom-right-refused, atom-read-found, ready-right}
 use Rattle.terms.proofs.Building.{ready-fewer}
-use borrow.Author.Needs.{needs}
 use native.Mathlib.Omega.{arith}
+use borrow.Author.Needs.{needs}
 use Rattle.terms.proofs.reader.atom.Statement.{statement}
 use Rattle.terms.proofs.reader.atom.Tie as tie
 
@@ -53,11 +53,17 @@ cast-comparison c = search needs
 comparison-requires : tie.Need-comparison-requires
 comparison-requires c κs = search needs
 
+wide-requires : tie.Need-wide-requires
+wide-requires c κs = search needs
+
+wide-requires-2 : tie.Need-wide-requires-2
+wide-requires-2 c κs = search needs
+
 same-length-3 : tie.Need-same-length-3
 same-length-3 c = search needs
 
 returns-5 : tie.Need-returns-5
-returns-5 c = atom-read-found (c .before .before .before .before .before .before .before .before .before .before .before .before .before .before .before .before .before .before .before .before .pre .1) (c .before .before .before .before .before .before .before .before .before .before .before .before .before .before .before .before .before .if1 .left) (c .before .before .before .before .before .before .before .before .before .before .before .before .before .before .before .if2 .left) (told-expression (c .before .before .before .before .before .before .before .before .before .before .before .before .before .expression .ensures) (c .before .before .before .before .before .before .before .before .before .first .given .1)) (told-expression (c .before .before .before .before .before .before .expression2 .ensures) (c .before .before .second .given .1)) (c .comparison .ensures)
+returns-5 c = rw (c .before .wide .ensures, c .wide2 .ensures) (atom-read-found (c .before .before .before .before .before .before .before .before .before .before .before .before .before .before .before .before .before .before .before .before .before .before .pre .1) (c .before .before .before .before .before .before .before .before .before .before .before .before .before .before .before .before .before .before .before .if1 .left) (c .before .before .before .before .before .before .before .before .before .before .before .before .before .before .before .before .before .if2 .left) (told-expression (c .before .before .before .before .before .before .before .before .before .before .before .before .before .before .before .expression .ensures) (c .before .before .before .before .before .before .before .before .before .before .before .first .given .1)) (told-expression (c .before .before .before .before .before .before .before .before .expression2 .ensures) (c .before .before .before .before .second .given .1)) (c .before .before .comparison .ensures))
 
 pub atom-spec : {M : Type 1} → statement M
 atom-spec =
@@ -79,5 +85,7 @@ atom-spec =
     returns-4
     cast-comparison
     comparison-requires
+    wide-requires
+    wide-requires-2
     same-length-3
     returns-5)

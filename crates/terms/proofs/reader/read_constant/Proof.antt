@@ -1,4 +1,5 @@
 use Rattle.terms.proofs.Building.{read-constant-missing, read-constant-found}
+use native.Mathlib.Omega.{arith}
 use borrow.Author.Needs.{needs}
 use Rattle.terms.proofs.reader.read_constant.Statement.{statement}
 use Rattle.terms.proofs.reader.read_constant.Tie as tie
@@ -17,6 +18,9 @@ word-requires c κs = search needs
 
 put-constant-requires : tie.Need-put-constant-requires
 put-constant-requires c κs = search needs
+
+cast-t14 : tie.Need-cast-t14
+cast-t14 c = omega (arith, c .before .before .before .before .before .before .before .before .pre .1 .space .fits)
 
 add-t9 : tie.Need-add-t9
 add-t9 c = search needs
@@ -42,6 +46,7 @@ read-constant-spec =
     add-word
     word-requires
     put-constant-requires
+    cast-t14
     add-t9
     sub-t15
     add-t16

@@ -1,4 +1,6 @@
+use mathlib.Core.Path.{refl}
 use Rattle.terms.proofs.Building.{read-variable-missing, read-variable-fault, read-variable-register, read-variable-new}
+use native.Mathlib.Omega.{arith}
 use borrow.Author.Needs.{needs}
 use Rattle.terms.proofs.reader.read_variable.Statement.{statement}
 use Rattle.terms.proofs.reader.read_variable.Tie as tie
@@ -21,23 +23,20 @@ add-t13 c = search needs
 returns-2 : tie.Need-returns-2
 returns-2 c = read-variable-fault (c .before .before .before .before .before .pre .1 .1) (c .before .before .before .before .before .pre .0 .0) (c .before .before .before .before .before .pre .0 .2) (c .before .before .if1 .left) (c .before .half .ensures .0) (c .if2 .taken)
 
-mul-wide : tie.Need-mul-wide
-mul-wide c = search needs
+mul-t14 : tie.Need-mul-t14
+mul-t14 c = search needs
 
-array-read-wide : tie.Need-array-read-wide
-array-read-wide c = search needs
+array-read-t17 : tie.Need-array-read-t17
+array-read-t17 c = search needs
 
-wide-requires : tie.Need-wide-requires
-wide-requires c κs = search needs
+add-t18 : tie.Need-add-t18
+add-t18 c = search needs
 
-add-t19 : tie.Need-add-t19
-add-t19 c = search needs
-
-sub-t20 : tie.Need-sub-t20
-sub-t20 c = search needs
+sub-t19 : tie.Need-sub-t19
+sub-t19 c = search needs
 
 returns-3 : tie.Need-returns-3
-returns-3 c = read-variable-register (c .before .before .before .before .before .before .before .pre .1 .1) (c .before .before .before .before .before .before .before .pre .0 .0) (c .before .before .before .before .before .before .before .pre .0 .2) (c .before .before .before .before .if1 .left) (c .before .before .before .half .ensures .0) (c .before .before .if2 .left) (c .before .if3 .taken) (c .wide .ensures)
+returns-3 c = read-variable-register (c .before .before .before .before .before .before .pre .1 .1) (c .before .before .before .before .before .before .pre .0 .0) (c .before .before .before .before .before .before .pre .0 .2) (c .before .before .before .if1 .left) (c .before .before .half .ensures .0) (c .before .if2 .left) (c .if3 .taken) refl
 
 cast-put-variable : tie.Need-cast-put-variable
 cast-put-variable c = search needs
@@ -45,14 +44,17 @@ cast-put-variable c = search needs
 put-variable-requires : tie.Need-put-variable-requires
 put-variable-requires c κs = search needs
 
+cast-t23 : tie.Need-cast-t23
+cast-t23 c = omega (arith, c .before .before .before .before .before .before .before .before .before .before .pre .1 .1 .space .fits)
+
 add-t11 : tie.Need-add-t11
 add-t11 c = search needs
 
-sub-t25 : tie.Need-sub-t25
-sub-t25 c = search needs
+sub-t24 : tie.Need-sub-t24
+sub-t24 c = search needs
 
-add-t26 : tie.Need-add-t26
-add-t26 c = search needs
+add-t25 : tie.Need-add-t25
+add-t25 c = search needs
 
 same-length : tie.Need-same-length
 same-length c = search needs
@@ -70,16 +72,16 @@ read-variable-spec =
     half-requires
     add-t13
     returns-2
-    mul-wide
-    array-read-wide
-    wide-requires
-    add-t19
-    sub-t20
+    mul-t14
+    array-read-t17
+    add-t18
+    sub-t19
     returns-3
     cast-put-variable
     put-variable-requires
+    cast-t23
     add-t11
-    sub-t25
-    add-t26
+    sub-t24
+    add-t25
     same-length
     returns-4)
