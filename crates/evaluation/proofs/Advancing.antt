@@ -1,22 +1,19 @@
 -- Laws of one instruction, one for each kind, and of the walk. Assumes nothing.
-use mathlib.Core.Path.{_≡_, refl, sym, ap, ap₂, subst, _∙_}
-use mathlib.Core.Option.{Option, none, some}
+use mathlib.Core.Path.{_≡_, sym, ap, ap₂, subst, _∙_}
 use mathlib.Core.List.{List, [], _∷_}
-use Prim.Native.Nat.{ℕ, zero, suc, _+_, _-_, _<_, _≤_}
+use Prim.Native.Nat.{ℕ, _<_, _≤_}
 use native.Mathlib.Omega.{arith}
-use lib.ListN.{length, getD, take}
+use lib.ListN.{length, getD}
 use Rattle.model.specs.Result.{value}
 use Rattle.model.specs.Term.{Term, constant, sum, difference}
-use Rattle.model.specs.Atom.{Atom}
 use Rattle.model.specs.Policy.{Policy}
 use Rattle.model.specs.Routine.{Routine}
 use Rattle.model.specs.Expression.{registerCount, atomsAt}
-use Rattle.model.specs.Goals.{Goal, Path as ModelPath, Move, goes, ends, returning, onward, pathTo, loading, termOf, addressTerm, goalOf, readable, writable, assign, jump, branch, move}
+use Rattle.model.specs.Goals.{Move, goes, ends, returning, onward, pathTo, loading, termOf, addressTerm, goalOf, readable, writable, jump, branch, move}
 use Rattle.model.specs.declared.Comparison.{Comparison}
 use Rattle.model.specs.declared.Comparison.the-variants.{Equal, Unequal, Less, AtMost}
 use Rattle.model.specs.declared.Instruction.{Instruction}
 use Rattle.model.specs.declared.Instruction.the-variants.{Set, Add, AddImmediate, Subtract, Load, Store, Jump, JumpLess, JumpEqual, Return}
-use Rattle.terms.specs.Table.{termAt}
 use Rattle.assumptions.specs.Area.{atomIn}
 use Rattle.assumptions.specs.declared.Assumption.{Assumption}
 use Rattle.routine.specs.Code.{Formed}
@@ -27,7 +24,7 @@ use Rattle.goals.specs.declared.Path.{Path}
 use Rattle.goals.specs.declared.Progress.{Progress}
 use Rattle.evaluation.specs.declared.Setting.{Setting}
 use Rattle.evaluation.specs.declared.Moved.{Moved}
-use Rattle.evaluation.specs.Setting.{Settled, Stands, Fixed, Tables, TablesStand}
+use Rattle.evaluation.specs.Setting.{Stands, Fixed, Tables, TablesStand}
 use Rattle.evaluation.specs.Moves.{MoveJudged, Moves, Advances, Assigns, Accesses}
 use Rattle.evaluation.proofs.PathLaws.{register-term}
 use Rattle.evaluation.proofs.Standing.{regions-stand, postcondition-stands}

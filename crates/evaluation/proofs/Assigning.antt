@@ -1,29 +1,26 @@
 -- Nodes put above a path's top, and assignments of them. Assumes nothing.
 use mathlib.Core.Path.{_≡_, refl, sym, ap, ap₂, subst, _∙_}
 use mathlib.Core.Bool.{Bool, true, false}
-use mathlib.Core.List.{List, [], _∷_}
-use Prim.Native.Nat.{ℕ, zero, suc, _+_, _<_, _≤_, max}
+use mathlib.Core.List.{List, []}
+use Prim.Native.Nat.{ℕ, suc, _+_, _<_, _≤_}
 use native.Mathlib.Numerals.{add-one}
 use native.Mathlib.Omega.{arith}
 use lib.Dec.{leb}
 use lib.ListN.{length, getD}
 use Rattle.model.specs.Term.{Term, constant, sum, difference, size}
-use Rattle.model.specs.Policy.{Policy}
-use Rattle.model.specs.Routine.{Routine}
 use Rattle.model.specs.Linear.{variableBound}
-use Rattle.model.specs.Goals.{Path as ModelPath, termOf, onward, pathTo, assigning, goes, refused, smallEnough, assign}
+use Rattle.model.specs.Goals.{Path as ModelPath, termOf, onward, pathTo, assigning, goes, smallEnough, assign}
 use Rattle.model.specs.declared.Refusal.the-variants.{LargeTerm}
-use Rattle.terms.specs.Workspace.{tableBase, Same}
+use Rattle.terms.specs.Workspace.{tableBase}
 use Rattle.terms.specs.Table.{place, termAt, Formed, Space, Put}
 use Rattle.terms.proofs.Frames.{same-trans, same-within}
 use Rattle.terms.proofs.Table.{term-same, formed-less}
 use Rattle.goals.specs.declared.Path.{Path}
 use Rattle.goals.specs.declared.Progress.{Progress}
 use Rattle.evaluation.specs.declared.Moved.{Moved}
-use Rattle.evaluation.specs.declared.MovedAnswer.the-variants.{On, Ended, Refused}
-use Rattle.goals.specs.Judging.{Reached}
-use Rattle.goals.specs.Walking.{pathOf, raisedTo, scopeOf, NodeIn, PathIn}
-use Rattle.evaluation.specs.Moves.{steppedTo, writtenTo, RoomFor, Built, Kept, Advanced, MoveJudged, assignedAs, Anywhere, Moves, Assigns}
+use Rattle.evaluation.specs.declared.MovedAnswer.the-variants.{On, Refused}
+use Rattle.goals.specs.Walking.{pathOf, raisedTo, NodeIn, PathIn}
+use Rattle.evaluation.specs.Moves.{steppedTo, writtenTo, RoomFor, Built, Kept, Advanced, MoveJudged, assignedAs, Assigns}
 use Rattle.goals.proofs.Judging.{judges-none}
 use Rattle.evaluation.proofs.Moving.{move-on, move-refused}
 use Rattle.evaluation.proofs.PathLaws.{kept-same, path-held, path-equal, path-higher, path-written, written-path, path-stepped, register-term}

@@ -1,7 +1,7 @@
 // Changes of a path.
 use goals::Path;
 ghost use mathlib.Core.Path.{_≡_};
-ghost use Prim.Native.Nat.{_+_, _≤_, _<_, _^_};
+ghost use Prim.Native.Nat.{_+_, _<_, _^_};
 ghost use lib.ListN.{getD};
 ghost use Rattle.model.specs.Term.{constant, sum};
 ghost use Rattle.model.specs.Goals.{termOf};

@@ -18,7 +18,7 @@ use model::Refusal;
 use routine::instructions;
 use routine::instructions::InstructionAnswer;
 ghost use mathlib.Core.Path.{_≡_};
-ghost use Prim.Native.Nat.{_+_, _≤_, _<_};
+ghost use Prim.Native.Nat.{_+_, _<_};
 ghost use lib.ListN.{getD};
 ghost use Rattle.terms.specs.Table.{termAt};
 ghost use Rattle.routine.specs.Headers.{Fits};

@@ -2,7 +2,7 @@
 use mathlib.Core.Path.{_≡_, sym, ap, ap₂, subst, _∙_}
 use mathlib.Core.Logic.{_⊎_}
 use mathlib.Core.List.{List, map}
-use Prim.Native.Nat.{ℕ, _+_, _-_, _<_, _≤_}
+use Prim.Native.Nat.{ℕ, _+_, _<_, _≤_}
 use native.Mathlib.Omega.{arith}
 use lib.ListN.{length, getD}
 use denote.Enum.Declared.{tagOf, declared}
@@ -13,7 +13,6 @@ use Rattle.model.specs.Linear.{variableBound}
 use Rattle.model.specs.Expression.{registerCount, atomsAt}
 use Rattle.model.specs.Goals.{Path as ModelPath, atom, arrival, returning}
 use Rattle.model.specs.Package.{mostInstructions}
-use Rattle.model.specs.Derivation.{derive}
 use Rattle.model.specs.declared.Comparison.the-variants.{AtMost}
 use Rattle.model.specs.declared.Refusal.{Refusal}
 use Rattle.model.specs.declared.Region.{Region}

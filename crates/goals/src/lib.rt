@@ -10,7 +10,7 @@ use model::Refusal;
 use terms::reader::AtomParse;
 use terms::reader::Parse;
 ghost use mathlib.Core.Path.{_≡_};
-ghost use Prim.Native.Nat.{ℕ, _+_, _≤_, _<_};
+ghost use Prim.Native.Nat.{_+_, _≤_, _<_};
 ghost use lib.ListN.{length};
 ghost use Rattle.model.specs.Term.{constant, difference};
 ghost use Rattle.model.specs.Atom.{atMost};

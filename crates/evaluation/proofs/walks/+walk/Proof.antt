@@ -23,7 +23,6 @@ walk-at t = and 6 walk-kinds.ps (is 6 walk-kinds.ps μ-walk t) walk.Pre
 abbrev walk-below : ℕ → In 6 walk-kinds.ps
 walk-below t = and 6 walk-kinds.ps (falls 6 walk-kinds.ps _<_ μ-walk t) walk.Pre
 
--- src/walks.rt:184:9
 walk-returns : (t : ℕ) → walk-lts.Need-returns (
   fetch-reads.Asked,
   fetch-reads.Learnt,
@@ -36,7 +35,6 @@ walk-returns : (t : ℕ) → walk-lts.Need-returns (
 ) (walk-at t) walk.Post
 walk-returns t c = walk-done (c .before .before .before .before .before .before .before .before .pre .1 .0) _ (c .if1 .taken)
 
--- src/walks.rt:186:9
 walk-fetch-requires : (t : ℕ) → walk-lts.Need-fetch-requires (
   fetch-reads.Asked,
   fetch-reads.Learnt,
@@ -49,7 +47,6 @@ walk-fetch-requires : (t : ℕ) → walk-lts.Need-fetch-requires (
 ) (walk-at t) walk.Post
 walk-fetch-requires t c κs = (c .before .before .before .before .before .before .before .before .pre .1 .0 .settled .fits, omega (arith, (c .before .before .before .before .before .before .before .before .pre .1 .1 .1 .1 .1), c .if1 .left))
 
--- src/walks.rt:187:9
 walk-advance-requires : (t : ℕ) → walk-lts.Need-advance-requires (
   fetch-reads.Asked,
   fetch-reads.Learnt,
@@ -62,7 +59,6 @@ walk-advance-requires : (t : ℕ) → walk-lts.Need-advance-requires (
 ) (walk-at t) walk.Post
 walk-advance-requires t c κs = (c .before .before .before .before .before .before .before .before .before .before .pre .1 .0, (one-room _ (omega (arith, c .before .before .if1 .left)) (c .before .before .before .before .before .before .before .before .before .before .pre .1 .1 .0), ((c .before .before .before .before .before .before .before .before .before .before .pre .1 .1 .1 .0), ((c .before .before .before .before .before .before .before .before .before .before .pre .1 .1 .1 .1 .0), c .before .fetch .ensures .formed))))
 
--- src/walks.rt:203:25
 walk-enum-known-answer : (t : ℕ) → walk-lts.Need-enum-known-answer (
   fetch-reads.Asked,
   fetch-reads.Learnt,
@@ -75,7 +71,6 @@ walk-enum-known-answer : (t : ℕ) → walk-lts.Need-enum-known-answer (
 ) (walk-at t) walk.Post
 walk-enum-known-answer t c = search needs
 
--- src/walks.rt:204:17
 walk-arrive-requires : (t : ℕ) → walk-lts.Need-arrive-requires (
   fetch-reads.Asked,
   fetch-reads.Learnt,
@@ -88,7 +83,6 @@ walk-arrive-requires : (t : ℕ) → walk-lts.Need-arrive-requires (
 ) (walk-at t) walk.Post
 walk-arrive-requires t c κs = after-asks (c .before .before .before .before .before .before .before .before .before .before .before .before .before .before .before .before .before .before .pre .1 .0) _ (c .before .before .before .before .before .before .before .before .before .before .before .before .before .before .before .before .before .before .pre .1 .1 .0) (c .before .before .before .before .before .before .before .before .before .before .before .before .before .before .before .before .before .before .pre .1 .1 .1 .0) (omega (arith, c .before .before .before .before .before .before .before .before .before .before .if1 .left)) (c .before .before .before .before .before .before .before .before .before .fetch .ensures) (c .before .before .before .before .before .before .before .advance .ensures) (c .before .before .answer .given .1) (c .before .before .before .before .before .before .before .advance .kept .1 .1 .1 .1 .1 .1 .0)
 
--- src/walks.rt:206:29
 walk-enum-known-arrived : (t : ℕ) → walk-lts.Need-enum-known-arrived (
   fetch-reads.Asked,
   fetch-reads.Learnt,
@@ -101,7 +95,6 @@ walk-enum-known-arrived : (t : ℕ) → walk-lts.Need-enum-known-arrived (
 ) (walk-at t) walk.Post
 walk-enum-known-arrived t c = search needs
 
--- src/walks.rt:214:21
 walk-enum-told : (t : ℕ) → walk-lts.Need-enum-told (
   fetch-reads.Asked,
   fetch-reads.Learnt,
@@ -114,7 +107,6 @@ walk-enum-told : (t : ℕ) → walk-lts.Need-enum-told (
 ) (walk-at t) walk.Post
 walk-enum-told t c = search needs
 
--- src/walks.rt:216:21
 walk-sub-walk : (t : ℕ) → walk-lts.Need-sub-walk (
   fetch-reads.Asked,
   fetch-reads.Learnt,
@@ -127,7 +119,6 @@ walk-sub-walk : (t : ℕ) → walk-lts.Need-sub-walk (
 ) (walk-at t) walk.Post
 walk-sub-walk t c = search needs
 
--- src/walks.rt:207:37
 walk-walk-requires : (t : ℕ) → walk-lts.Need-walk-requires (
   fetch-reads.Asked,
   fetch-reads.Learnt,
@@ -140,7 +131,6 @@ walk-walk-requires : (t : ℕ) → walk-lts.Need-walk-requires (
 ) (walk-at t) walk.Post
 walk-walk-requires t c κs = (omega (arith, c .before .before .before .before .before .before .before .before .before .before .before .before .before .before .before .before .before .before .before .before .before .before .before .before .pre .0, c .before .before .before .before .before .before .before .before .before .before .before .before .before .before .before .before .if1 .left), (c .before .before .before .before .before .before .before .before .before .before .before .before .before .before .before .before .before .before .before .before .before .before .before .before .pre .1 .0, walk-asks (c .before .before .before .before .before .before .before .before .before .before .before .before .before .before .before .before .before .before .before .before .before .before .before .before .pre .1 .0) _ (c .before .before .before .before .before .before .before .before .before .before .before .before .before .before .before .before .before .before .before .before .before .before .before .before .pre .1 .1 .0) (c .before .before .before .before .before .before .before .before .before .before .before .before .before .before .before .before .before .before .before .before .before .before .before .before .pre .1 .1 .1 .0) (omega (arith, c .before .before .before .before .before .before .before .before .before .before .before .before .before .before .before .before .if1 .left)) (c .before .before .before .before .before .before .before .before .before .before .before .before .before .before .before .fetch .ensures) (c .before .before .before .before .before .before .before .before .before .before .before .before .before .advance .ensures) (c .before .before .before .before .before .before .before .before .answer .given .1) (c .before .before .before .before .before .before .before .before .before .before .before .before .before .advance .kept .1 .1 .1 .1 .1 .1 .0) (c .before .before .before .before .before .arrive .ensures) (c .before .before .before .before .before .arrive .kept .1 .1 .1 .1 .1 .0) (c .before .before .before .before .before .before .before .before .before .before .before .before .before .before .before .before .before .before .before .before .before .before .before .before .pre .1 .1 .1 .1 .1)))
 
--- src/walks.rt:222:28
 walk-enum-known-answer-2 : (t : ℕ) → walk-lts.Need-enum-known-answer-2 (
   fetch-reads.Asked,
   fetch-reads.Learnt,
@@ -153,7 +143,6 @@ walk-enum-known-answer-2 : (t : ℕ) → walk-lts.Need-enum-known-answer-2 (
 ) (walk-at t) walk.Post
 walk-enum-known-answer-2 t c = search needs
 
--- src/walks.rt:223:30
 walk-enum-known-answer-3 : (t : ℕ) → walk-lts.Need-enum-known-answer-3 (
   fetch-reads.Asked,
   fetch-reads.Learnt,
@@ -166,7 +155,6 @@ walk-enum-known-answer-3 : (t : ℕ) → walk-lts.Need-enum-known-answer-3 (
 ) (walk-at t) walk.Post
 walk-enum-known-answer-3 t c = search needs
 
--- src/walks.rt:162:1
 walk-same-length : (t : ℕ) → walk-lts.Need-same-length (
   fetch-reads.Asked,
   fetch-reads.Learnt,
@@ -179,7 +167,6 @@ walk-same-length : (t : ℕ) → walk-lts.Need-same-length (
 ) (walk-at t) walk.Post
 walk-same-length t c = (c .before .before .before .before .before .arrive .kept .1 .1 .1 .1 .1 .0) ∙ (c .before .before .before .before .before .before .before .before .before .before .before .before .before .advance .kept .1 .1 .1 .1 .1 .1 .0)
 
--- src/walks.rt:162:1
 walk-returns-2 : (t : ℕ) → walk-lts.Need-returns-2 (
   fetch-reads.Asked,
   fetch-reads.Learnt,
@@ -192,7 +179,6 @@ walk-returns-2 : (t : ℕ) → walk-lts.Need-returns-2 (
 ) (walk-at t) walk.Post
 walk-returns-2 t c = walk-arrives (c .before .before .before .before .before .before .before .before .before .before .before .before .before .before .before .before .before .before .before .before .before .before .before .before .pre .1 .0) _ (c .before .before .before .before .before .before .before .before .before .before .before .before .before .before .before .before .before .before .before .before .before .before .before .before .pre .1 .1 .0) (c .before .before .before .before .before .before .before .before .before .before .before .before .before .before .before .before .before .before .before .before .before .before .before .before .pre .1 .1 .1 .0) (omega (arith, c .before .before .before .before .before .before .before .before .before .before .before .before .before .before .before .before .if1 .left)) (c .before .before .before .before .before .before .before .before .before .before .before .before .before .before .before .fetch .ensures) (c .before .before .before .before .before .before .before .before .before .before .before .before .before .advance .ensures) (c .before .before .before .before .before .before .before .before .answer .given .1) (c .before .before .before .before .before .before .before .before .before .before .before .before .before .advance .kept .1 .1 .1 .1 .1 .1 .0) (c .before .before .before .before .before .arrive .ensures) (c .before .arrived .given .1)
 
--- src/walks.rt:162:1
 walk-same-length-2 : (t : ℕ) → walk-lts.Need-same-length-2 (
   fetch-reads.Asked,
   fetch-reads.Learnt,
@@ -205,7 +191,6 @@ walk-same-length-2 : (t : ℕ) → walk-lts.Need-same-length-2 (
 ) (walk-at t) walk.Post
 walk-same-length-2 t c = (c .before .before .walk .kept .1 .1 .1 .1 .1 .1 .0) ∙ (c .before .before .before .before .before .before .before .before .arrive .kept .1 .1 .1 .1 .1 .0) ∙ (c .before .before .before .before .before .before .before .before .before .before .before .before .before .before .before .before .advance .kept .1 .1 .1 .1 .1 .1 .0)
 
--- src/walks.rt:162:1
 walk-returns-3 : (t : ℕ) → walk-lts.Need-returns-3 (
   fetch-reads.Asked,
   fetch-reads.Learnt,
@@ -218,7 +203,6 @@ walk-returns-3 : (t : ℕ) → walk-lts.Need-returns-3 (
 ) (walk-at t) walk.Post
 walk-returns-3 t c = walk-goes (c .before .before .before .before .before .before .before .before .before .before .before .before .before .before .before .before .before .before .before .before .before .before .before .before .before .before .before .pre .1 .0) _ (c .before .before .before .before .before .before .before .before .before .before .before .before .before .before .before .before .before .before .before .before .before .before .before .before .before .before .before .pre .1 .1 .0) (c .before .before .before .before .before .before .before .before .before .before .before .before .before .before .before .before .before .before .before .before .before .before .before .before .before .before .before .pre .1 .1 .1 .0) (omega (arith, c .before .before .before .before .before .before .before .before .before .before .before .before .before .before .before .before .before .before .before .if1 .left)) (c .before .before .before .before .before .before .before .before .before .before .before .before .before .before .before .before .before .before .fetch .ensures) (c .before .before .before .before .before .before .before .before .before .before .before .before .before .before .before .before .advance .ensures) (c .before .before .before .before .before .before .before .before .before .before .before .answer .given .1) (c .before .before .before .before .before .before .before .before .before .before .before .before .before .before .before .before .advance .kept .1 .1 .1 .1 .1 .1 .0) (c .before .before .before .before .before .before .before .before .arrive .ensures) (c .before .before .before .before .enum-told .given .1) (c .before .before .walk .ensures)
 
--- src/walks.rt:162:1
 walk-same-length-3 : (t : ℕ) → walk-lts.Need-same-length-3 (
   fetch-reads.Asked,
   fetch-reads.Learnt,
@@ -231,7 +215,6 @@ walk-same-length-3 : (t : ℕ) → walk-lts.Need-same-length-3 (
 ) (walk-at t) walk.Post
 walk-same-length-3 t c = search needs
 
--- src/walks.rt:162:1
 walk-returns-4 : (t : ℕ) → walk-lts.Need-returns-4 (
   fetch-reads.Asked,
   fetch-reads.Learnt,
@@ -244,7 +227,6 @@ walk-returns-4 : (t : ℕ) → walk-lts.Need-returns-4 (
 ) (walk-at t) walk.Post
 walk-returns-4 t c = walk-ends (c .before .before .before .before .before .before .before .before .before .before .before .before .before .before .before .before .before .pre .1 .0) _ (c .before .before .before .before .before .before .before .before .before .before .before .before .before .before .before .before .before .pre .1 .1 .0) (c .before .before .before .before .before .before .before .before .before .before .before .before .before .before .before .before .before .pre .1 .1 .1 .0) (omega (arith, c .before .before .before .before .before .before .before .before .before .if1 .left)) (c .before .before .before .before .before .before .before .before .fetch .ensures) (c .before .before .before .before .before .before .advance .ensures) (c .before .answer2 .given .1)
 
--- src/walks.rt:162:1
 walk-same-length-4 : (t : ℕ) → walk-lts.Need-same-length-4 (
   fetch-reads.Asked,
   fetch-reads.Learnt,
@@ -257,7 +239,6 @@ walk-same-length-4 : (t : ℕ) → walk-lts.Need-same-length-4 (
 ) (walk-at t) walk.Post
 walk-same-length-4 t c = search needs
 
--- src/walks.rt:162:1
 walk-returns-5 : (t : ℕ) → walk-lts.Need-returns-5 (
   fetch-reads.Asked,
   fetch-reads.Learnt,

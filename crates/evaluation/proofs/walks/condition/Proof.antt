@@ -1,20 +1,13 @@
-use native.Mathlib.Omega.{arith}
 use borrow.Author.Needs.{needs}
 use Rattle.evaluation.proofs.walks.condition.Statement.{statement}
 use Rattle.evaluation.proofs.walks.condition.Tie as tie
-use Rattle.evaluation.proofs.walks.condition.Reads as reads
-use Rattle.evaluation.proofs.walks.condition.Lts as lts
-use Rattle.evaluation.proofs.paths.node.Reads as node-reads
 
--- src/walks.rt:45:15
 node-requires : tie.Need-node-requires
 node-requires c κs = search needs
 
--- src/walks.rt:46:16
 node-requires-2 : tie.Need-node-requires-2
 node-requires-2 c κs = search needs
 
--- src/walks.rt:39:1
 returns : tie.Need-returns
 returns c = rw (c .before .node .ensures, c .node2 .ensures)
 
