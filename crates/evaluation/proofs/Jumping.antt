@@ -14,6 +14,8 @@ use Rattle.model.specs.Expression.{registerCount, atomsAt}
 use Rattle.model.specs.Annotation.{Annotation, annotationAt}
 use Rattle.model.specs.Goals.{Goal, Path as ModelPath, Move, goes, ends, refused, arrival, returning, onward, pathTo, assuming, atTarget, jump, branch}
 use Rattle.model.specs.declared.Region.{Region}
+use Rattle.model.specs.declared.Comparison.{Comparison}
+use Rattle.model.specs.declared.Comparison.the-variants.{Equal, Unequal, Less, AtMost}
 use Rattle.model.specs.declared.Refusal.{Refusal}
 use Rattle.model.specs.declared.Refusal.the-variants.{Unannotated}
 use Rattle.terms.specs.Workspace.{tableBase, mostAssumptions, mostTableNodes, workspaceWords, Same}
@@ -41,7 +43,7 @@ use Rattle.evaluation.specs.declared.MovedAnswer.the-variants.{On, Ended
 use Rattle.evaluation.specs.declared.Arrived.{Arrived}
 use Rattle.evaluation.specs.declared.Arrived.the-variants.{At, Nowhere}
 use Rattle.evaluation.specs.Setting.{Tables, TablesStand}
-use Rattle.evaluation.specs.Moves.{steppedTo, RoomFor, Kept, Leads, MoveJudged, Moves, endedAs, ArrivedAs, ReachedThere, Arrives}
+use Rattle.evaluation.specs.Moves.{oppositeOf, steppedTo, RoomFor, Kept, Leads, MoveJudged, Moves, endedAs, ArrivedAs, ReachedThere, Arrives}
 use Rattle.evaluation.proofs.Moving.{move-on, move-stopped, move-ended, move-refused}
 use Rattle.evaluation.proofs.PathLaws.{kept-same, kept-then, node-equal, node-held, node-wider, path-equal, path-stepped, room-kept}
 use Rattle.evaluation.proofs.Standing.{placed-stands, found-inside, found-there, found-nowhere}
@@ -171,6 +173,13 @@ return-ended {us = us} {bytes} {path = path} j g r e = rw e (record {
 })
 
 -- ---- branches
+-- the nodes of a comparison's opposite
+pub opposite-below : (kind : Comparison) {left right top : ℕ} {o : Assumption} → o ≡ oppositeOf kind left right → (left < top) × (right < top) → (o .left < top) × (o .right < top)
+opposite-below Equal e h = rw e h
+opposite-below Unequal e h = rw e h
+opposite-below Less e h = rw e (h .1, h .0)
+opposite-below AtMost e h = rw e (h .1, h .0)
+
 -- what assuming a condition asks
 pub assume-asks : {ws : List ℕ} {path stepped : Path} {left right i : ℕ} → RoomFor ws path 1 → stepped ≡ steppedTo path i → (left < path .top) × (right < path .top)
     → PathIn ws stepped × (((stepped .assumptions < mostAssumptions) × (stepped .top ≤ mostTableNodes) × (workspaceWords ≤ length ws)) × ((left < stepped .top) × (right < stepped .top)))
