@@ -1,32 +1,30 @@
 -- Laws of loads and stores. Assumes nothing.
 use mathlib.Core.Path.{_≡_, refl, sym, ap, ap₂, subst, _∙_}
 use mathlib.Core.List.{List, [], _∷_}
-use Prim.Native.Nat.{ℕ, zero, suc, _+_, _<_, _≤_, max}
+use Prim.Native.Nat.{ℕ, _+_, _<_, _≤_}
 use native.Mathlib.Numerals.{add-one}
 use native.Mathlib.Omega.{arith}
-use lib.ListN.{length, getD}
-use Rattle.model.specs.Term.{Term, constant, variable, sum}
+use lib.ListN.{length}
+use Rattle.model.specs.Term.{Term, variable}
 use Rattle.model.specs.Policy.{Policy}
-use Rattle.model.specs.Routine.{Routine}
 use Rattle.model.specs.Linear.{variableBound}
-use Rattle.model.specs.Goals.{Claim, Goal, Path as ModelPath, Move, goes, goalOf, onward, pathTo, loading, assigning}
+use Rattle.model.specs.Goals.{Claim, Goal, Path as ModelPath, goes, goalOf, onward, loading, assigning}
 use Rattle.model.specs.declared.Region.{Region}
 use Rattle.model.specs.declared.Refusal.{Refusal}
-use Rattle.terms.specs.Workspace.{tableBase, Same}
-use Rattle.terms.specs.Table.{place, termAt, Space, Put}
+use Rattle.terms.specs.Table.{place, termAt, Put}
 use Rattle.terms.proofs.Frames.{same-trans, same-within}
 use Rattle.goals.specs.declared.Path.{Path}
 use Rattle.goals.specs.declared.Progress.{Progress}
 use Rattle.goals.specs.declared.Judged.{Judged}
 use Rattle.goals.specs.declared.Judged.the-variants.{Next as Judged-on, Refused as Judged-refused}
 use Rattle.evaluation.specs.declared.Moved.{Moved}
-use Rattle.evaluation.specs.declared.MovedAnswer.the-variants.{On, Ended, Refused}
+use Rattle.evaluation.specs.declared.MovedAnswer.the-variants.{On, Refused}
 use Rattle.goals.specs.Judging.{Reached, ReachedAfter, Judges}
-use Rattle.goals.specs.Walking.{pathOf, raisedTo, NodeIn, ClaimIn, PathIn, Going, derivationRoom}
+use Rattle.goals.specs.Walking.{pathOf, raisedTo, ClaimIn, PathIn, Going, derivationRoom}
 use Rattle.derivation.specs.declared.Claim.the-variants.{Readable, Writable}
 use Rattle.derivation.specs.Regions.{RegionWords}
 use Rattle.goals.specs.Settling.{GoalJudged}
-use Rattle.evaluation.specs.Moves.{steppedTo, writtenTo, oneVariable, RoomFor, Built, Kept, Advanced, MoveJudged, Moves, Accesses, Loads}
+use Rattle.evaluation.specs.Moves.{steppedTo, writtenTo, oneVariable, RoomFor, Built, Kept, Advanced, MoveJudged, Accesses, Loads}
 use Rattle.evaluation.proofs.Moving.{move-on, move-stopped}
 use Rattle.evaluation.proofs.PathLaws.{kept-none, kept-same, kept-then, path-held, path-equal, path-higher, path-written, written-path, path-stepped, path-variable}
 

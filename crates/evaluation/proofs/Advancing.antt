@@ -1,24 +1,18 @@
 -- Laws of one instruction, one for each kind, and of the walk. Assumes nothing.
-use mathlib.Core.Path.{_≡_, refl, sym, ap, ap₂, subst, _∙_}
-use mathlib.Core.Option.{Option, none, some}
+use mathlib.Core.Path.{_≡_, sym, subst, _∙_}
 use mathlib.Core.List.{List, [], _∷_}
-use Prim.Native.Nat.{ℕ, zero, suc, _+_, _-_, _<_, _≤_}
+use Prim.Native.Nat.{ℕ, _<_, _≤_}
 use native.Mathlib.Omega.{arith}
-use lib.ListN.{length, getD, take}
+use lib.ListN.{length}
 use Rattle.model.specs.Result.{value}
 use Rattle.model.specs.Term.{Term, constant, sum, difference}
-use Rattle.model.specs.Atom.{Atom}
 use Rattle.model.specs.Policy.{Policy}
 use Rattle.model.specs.Routine.{Routine}
 use Rattle.model.specs.Expression.{registerCount, atomsAt}
-use Rattle.model.specs.Goals.{Goal, Path as ModelPath, Move, goes, ends, returning, onward, pathTo, loading, termOf, addressTerm, goalOf, readable, writable, assign, jump, branch, move}
-use Rattle.model.specs.declared.Comparison.{Comparison}
-use Rattle.model.specs.declared.Comparison.the-variants.{Equal, Unequal, Less, AtMost}
+use Rattle.model.specs.Goals.{Move, goes, ends, returning, onward, pathTo, loading, termOf, addressTerm, goalOf, readable, writable, jump, move}
+use Rattle.model.specs.declared.Comparison.the-variants.{Equal, Less}
 use Rattle.model.specs.declared.Instruction.{Instruction}
 use Rattle.model.specs.declared.Instruction.the-variants.{Set, Add, AddImmediate, Subtract, Load, Store, Jump, JumpLess, JumpEqual, Return}
-use Rattle.terms.specs.Table.{termAt}
-use Rattle.assumptions.specs.Area.{atomIn}
-use Rattle.assumptions.specs.declared.Assumption.{Assumption}
 use Rattle.routine.specs.Code.{Formed}
 use Rattle.derivation.specs.Regions.{regionsOf}
 use Rattle.goals.specs.Judging.{Reached}
@@ -27,8 +21,8 @@ use Rattle.goals.specs.declared.Path.{Path}
 use Rattle.goals.specs.declared.Progress.{Progress}
 use Rattle.evaluation.specs.declared.Setting.{Setting}
 use Rattle.evaluation.specs.declared.Moved.{Moved}
-use Rattle.evaluation.specs.Setting.{Settled, Stands, Fixed, Tables, TablesStand}
-use Rattle.evaluation.specs.Moves.{MoveJudged, Moves, Advances, Assigns, Accesses}
+use Rattle.evaluation.specs.Setting.{Stands, Fixed, Tables, TablesStand}
+use Rattle.evaluation.specs.Moves.{MoveJudged, Moves, Branches, Advances, Assigns, Accesses}
 use Rattle.evaluation.proofs.PathLaws.{register-term}
 use Rattle.evaluation.proofs.Standing.{regions-stand, postcondition-stands}
 
@@ -38,53 +32,45 @@ formed-as n f e = subst (Formed n) e f
 
 -- what the functions of the kinds ask of the fields
 module _ (n : ℕ) {instruction : Instruction} (f : Formed n instruction) where
-  pub set-asks : {d i x : ℕ} → instruction ≡ Set d i → x ≡ d → x < 16
+  pub set-asks : {d i : ℕ} → instruction ≡ Set d i → d < 16
   unfolding Formed
-  set-asks e ed = rw ed (formed-as n f e .0)
+  set-asks e = formed-as n f e .0
 
-  module _ {d a x y : ℕ} (ed : x ≡ d) (ea : y ≡ a) where
-    pub add-immediate-asks : {i : ℕ} → instruction ≡ AddImmediate d a i → (x < 16) × (y < 16)
+  module _ {d a b : ℕ} where
+    pub add-asks : instruction ≡ Add d a b → (d < 16) × (a < 16) × (b < 16)
     unfolding Formed
-    add-immediate-asks e = let g = formed-as n f e in (rw ed (g .0), rw ea (g .1))
+    add-asks e = formed-as n f e
 
-    pub load-asks : {i : ℕ} → instruction ≡ Load d a i → (x < 16) × (y < 16)
+    pub subtract-asks : instruction ≡ Subtract d a b → (d < 16) × (a < 16) × (b < 16)
     unfolding Formed
-    load-asks e = let g = formed-as n f e in (rw ed (g .0), rw ea (g .1))
+    subtract-asks e = formed-as n f e
 
-    module _ {b z : ℕ} (eb : z ≡ b) where
-      pub add-asks : instruction ≡ Add d a b → (x < 16) × (y < 16) × (z < 16)
+  module _ {d a i : ℕ} where
+    pub add-immediate-asks : instruction ≡ AddImmediate d a i → (d < 16) × (a < 16)
+    unfolding Formed
+    add-immediate-asks e = let g = formed-as n f e in (g .0, g .1)
+
+    pub load-asks : instruction ≡ Load d a i → (d < 16) × (a < 16)
+    unfolding Formed
+    load-asks e = let g = formed-as n f e in (g .0, g .1)
+
+    pub store-asks : instruction ≡ Store d a i → a < 16
+    unfolding Formed
+    store-asks e = formed-as n f e .1
+
+  module _ {i : ℕ} (h : n ≤ 256) where
+    pub jump-asks : instruction ≡ Jump i → i ≤ 256
+    unfolding Formed
+    jump-asks e = omega (arith, formed-as n f e)
+
+    module _ {a b : ℕ} where
+      pub less-asks : instruction ≡ JumpLess a b i → (i ≤ 256) × ((a < 16) × (b < 16))
       unfolding Formed
-      add-asks e = let g = formed-as n f e in (rw ed (g .0), rw ea (g .1), rw eb (g .2))
+      less-asks e = let g = formed-as n f e in (omega (arith, g .2), (g .0, g .1))
 
-      pub subtract-asks : instruction ≡ Subtract d a b → (x < 16) × (y < 16) × (z < 16)
+      pub equal-asks : instruction ≡ JumpEqual a b i → (i ≤ 256) × ((a < 16) × (b < 16))
       unfolding Formed
-      subtract-asks e = let g = formed-as n f e in (rw ed (g .0), rw ea (g .1), rw eb (g .2))
-
-  pub store-asks : {d a i y : ℕ} → y ≡ a → instruction ≡ Store d a i → y < 16
-  unfolding Formed
-  store-asks ea e = rw ea (formed-as n f e .1)
-
-  pub jump-asks : {i : ℕ} → n ≤ 256 → instruction ≡ Jump i → i ≤ 256
-  unfolding Formed
-  jump-asks h e = omega (arith, formed-as n f e)
-
-  module _ {a b i x y : ℕ} (h : n ≤ 256) (ea : x ≡ a) (eb : y ≡ b) where
-    pub less-asks : instruction ≡ JumpLess a b i → (x < 16) × (y < 16) × (i ≤ 256)
-    unfolding Formed
-    less-asks e = let g = formed-as n f e in (rw ea (g .0), rw eb (g .1), omega (arith, g .2))
-
-    pub equal-asks : instruction ≡ JumpEqual a b i → (x < 16) × (y < 16) × (i ≤ 256)
-    unfolding Formed
-    equal-asks e = let g = formed-as n f e in (rw ea (g .0), rw eb (g .1), omega (arith, g .2))
-
--- a comparison of two registers
-pub condition-below : {ws : List ℕ} {path : Path} {kind : Comparison} {c d : ℕ} {o : Assumption} → PathIn ws path → c < 16 → d < 16
-    → o ≡ record { kind = kind; left = getD (path .registers) c 0; right = getD (path .registers) d 0 } → (o .left < path .top) × (o .right < path .top)
-condition-below {c = c} {d} w hc hd e = rw e (w .held c hc .below, w .held d hd .below)
-
-condition-atom : {ws : List ℕ} {path : Path} → PathIn ws path → (kind : Comparison) {c d : ℕ} → c < 16 → d < 16 → {o : Assumption}
-    → o ≡ record { kind = kind; left = getD (path .registers) c 0; right = getD (path .registers) d 0 } → atomIn ws o ≡ record { kind = kind; left = termOf (pathOf ws path) c; right = termOf (pathOf ws path) d }
-condition-atom {ws} w kind {c} {d} hc hd e = ap (atomIn ws) e ∙ ap₂ (λ s t. record { kind = kind; left = s; right = t }) (register-term w c hc) (register-term w d hd)
+      equal-asks e = let g = formed-as n f e in (omega (arith, g .2), (g .0, g .1))
 
 -- the same where less is known of policy and routine, and the move has another name
 moves-as : {ws us bytes : List ℕ} {There Here : Policy → Routine → Type 0} {credit : Term} {what named : Policy → Routine → Move} {path : Path} {p : Progress} {r : Moved}
@@ -110,38 +96,36 @@ module _ {bytes policyBytes regions indexes places : List ℕ} {setting : Settin
 
   -- ---- the kinds
   module _ {ws us : List ℕ} {path : Path} {credit : Term} {p : Progress} {r : Moved} {instruction : Instruction} where
-    module _ (h : Reached bytes p) where
-      module _ {d x : ℕ} (ed : x ≡ d) where
-        pub set-moves : {i : ℕ} → instruction ≡ Set d i → Assigns ws us path x (constant i) p r → Advances ws us bytes policyBytes places setting credit path instruction p r
+    module _ (h : Reached bytes p) {d : ℕ} where
+      pub set-moves : {i : ℕ} → instruction ≡ Set d i → Assigns ws us path d (constant i) p r → Advances ws us bytes policyBytes places setting credit path instruction p r
+      unfolding move
+      set-moves e z = moves-as (λ policy routine w. tt) (λ policy routine. rw e) (z .moves bytes credit h)
+
+      module _ {a : ℕ} where
+        pub add-immediate-moves : {i : ℕ} → instruction ≡ AddImmediate d a i → Assigns ws us path d (sum (termOf (pathOf ws path) a) (constant i)) p r → Advances ws us bytes policyBytes places setting credit path instruction p r
         unfolding move
-        set-moves e a = moves-as (λ policy routine w. tt) (λ policy routine. rw (e, ed)) (a .moves bytes credit h)
+        add-immediate-moves e z = moves-as (λ policy routine w. tt) (λ policy routine. rw e) (z .moves bytes credit h)
 
-        module _ {a y : ℕ} (ea : y ≡ a) where
-          pub add-immediate-moves : {i : ℕ} → instruction ≡ AddImmediate d a i → Assigns ws us path x (sum (termOf (pathOf ws path) y) (constant i)) p r → Advances ws us bytes policyBytes places setting credit path instruction p r
-          unfolding move
-          add-immediate-moves e z = moves-as (λ policy routine w. tt) (λ policy routine. rw (e, ed, ea)) (z .moves bytes credit h)
+        pub add-moves : {b : ℕ} → instruction ≡ Add d a b → Assigns ws us path d (sum (termOf (pathOf ws path) a) (termOf (pathOf ws path) b)) p r → Advances ws us bytes policyBytes places setting credit path instruction p r
+        unfolding move
+        add-moves e z = moves-as (λ policy routine w. tt) (λ policy routine. rw e) (z .moves bytes credit h)
 
-          module _ {b z : ℕ} (eb : z ≡ b) where
-            pub add-moves : instruction ≡ Add d a b → Assigns ws us path x (sum (termOf (pathOf ws path) y) (termOf (pathOf ws path) z)) p r → Advances ws us bytes policyBytes places setting credit path instruction p r
-            unfolding move
-            add-moves e q = moves-as (λ policy routine w. tt) (λ policy routine. rw (e, ed, ea, eb)) (q .moves bytes credit h)
+        pub subtract-moves : {b : ℕ} → instruction ≡ Subtract d a b → Assigns ws us path d (difference (termOf (pathOf ws path) a) (termOf (pathOf ws path) b)) p r → Advances ws us bytes policyBytes places setting credit path instruction p r
+        unfolding move
+        subtract-moves e z = moves-as (λ policy routine w. tt) (λ policy routine. rw e) (z .moves bytes credit h)
 
-            pub subtract-moves : instruction ≡ Subtract d a b → Assigns ws us path x (difference (termOf (pathOf ws path) y) (termOf (pathOf ws path) z)) p r → Advances ws us bytes policyBytes places setting credit path instruction p r
-            unfolding move
-            subtract-moves e q = moves-as (λ policy routine w. tt) (λ policy routine. rw (e, ed, ea, eb)) (q .moves bytes credit h)
-
-    module _ {a y i : ℕ} (ea : y ≡ a) where
-      pub load-moves : {d x : ℕ} → x ≡ d → instruction ≡ Load d a i
-          → Accesses ws us bytes (regionsOf regions (setting .policy .count)) (goes (goalOf (pathOf ws path) (readable (addressTerm (pathOf ws path) y i)) ∷ []) (onward (loading (pathOf ws path) x))) path p r
+    module _ {d a i : ℕ} where
+      pub load-moves : instruction ≡ Load d a i
+          → Accesses ws us bytes (regionsOf regions (setting .policy .count)) (goes (goalOf (pathOf ws path) (readable (addressTerm (pathOf ws path) a i)) ∷ []) (onward (loading (pathOf ws path) d))) path p r
           → Advances ws us bytes policyBytes places setting credit path instruction p r
       unfolding move
-      load-moves ed e m = moves-as (λ policy routine w. fixed-regions w) (λ policy routine. rw (e, ed, ea)) (m .moves credit)
+      load-moves e m = moves-as (λ policy routine w. fixed-regions w) (λ policy routine. rw e) (m .moves credit)
 
-      pub store-moves : {d : ℕ} → instruction ≡ Store d a i
-          → Accesses ws us bytes (regionsOf regions (setting .policy .count)) (goes (goalOf (pathOf ws path) (writable (addressTerm (pathOf ws path) y i)) ∷ []) (onward (pathOf ws path))) path p r
+      pub store-moves : instruction ≡ Store d a i
+          → Accesses ws us bytes (regionsOf regions (setting .policy .count)) (goes (goalOf (pathOf ws path) (writable (addressTerm (pathOf ws path) a i)) ∷ []) (onward (pathOf ws path))) path p r
           → Advances ws us bytes policyBytes places setting credit path instruction p r
       unfolding move
-      store-moves e m = moves-as (λ policy routine w. fixed-regions w) (λ policy routine. rw (e, ea)) (m .moves credit)
+      store-moves e m = moves-as (λ policy routine w. fixed-regions w) (λ policy routine. rw e) (m .moves credit)
 
     pub jump-moves : {i : ℕ} → instruction ≡ Jump i
         → Moves ws us bytes (TablesStand bytes regions places setting) credit (λ policy routine. jump policy routine credit (pathOf ws path) (pathTo (pathOf ws path) i) ends) path p r
@@ -156,17 +140,12 @@ module _ {bytes policyBytes regions indexes places : List ℕ} {setting : Settin
     unfolding move
     return-moves e m = moves-as (λ policy routine w. (fixed-regions w, (length policyBytes, postcondition-stands (fixed .settled) w))) (λ policy routine. rw e) m
 
-    -- a branch, its conditions being comparisons of two registers
-    module _ (w : PathIn ws path) {a b x y i : ℕ} (ha : x < 16) (hb : y < 16) (ea : x ≡ a) (eb : y ≡ b) {taken opposite : Assumption} where
-      module _ (m : Moves ws us bytes (TablesStand bytes regions places setting) credit (λ policy routine. branch policy routine credit (pathOf ws path) i (atomIn ws taken) (atomIn ws opposite)) path p r) where
-        pub less-moves : instruction ≡ JumpLess a b i → taken ≡ record { kind = Less; left = getD (path .registers) x 0; right = getD (path .registers) y 0 }
-            → opposite ≡ record { kind = AtMost; left = getD (path .registers) y 0; right = getD (path .registers) x 0 }
-            → Advances ws us bytes policyBytes places setting credit path instruction p r
-        unfolding move
-        less-moves e et eo = moves-as (λ policy routine s. fixed-stand s) (λ policy routine. rw (e, ← ea, ← eb, condition-atom w Less ha hb et, condition-atom w AtMost hb ha eo)) m
+    -- a branch by a comparison of two registers
+    module _ (w : PathIn ws path) {a b i : ℕ} (below : (a < 16) × (b < 16)) where
+      pub less-moves : instruction ≡ JumpLess a b i → Branches ws us bytes (TablesStand bytes regions places setting) credit path Less a b i p r → Advances ws us bytes policyBytes places setting credit path instruction p r
+      unfolding move
+      less-moves e m = moves-as (λ policy routine s. fixed-stand s) (λ policy routine. rw (e, register-term w a (below .0), register-term w b (below .1))) m
 
-        pub equal-moves : instruction ≡ JumpEqual a b i → taken ≡ record { kind = Equal; left = getD (path .registers) x 0; right = getD (path .registers) y 0 }
-            → opposite ≡ record { kind = Unequal; left = getD (path .registers) x 0; right = getD (path .registers) y 0 }
-            → Advances ws us bytes policyBytes places setting credit path instruction p r
-        unfolding move
-        equal-moves e et eo = moves-as (λ policy routine s. fixed-stand s) (λ policy routine. rw (e, ← ea, ← eb, condition-atom w Equal ha hb et, condition-atom w Unequal ha hb eo)) m
+      pub equal-moves : instruction ≡ JumpEqual a b i → Branches ws us bytes (TablesStand bytes regions places setting) credit path Equal a b i p r → Advances ws us bytes policyBytes places setting credit path instruction p r
+      unfolding move
+      equal-moves e m = moves-as (λ policy routine s. fixed-stand s) (λ policy routine. rw (e, register-term w a (below .0), register-term w b (below .1))) m

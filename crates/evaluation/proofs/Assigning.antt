@@ -1,41 +1,37 @@
 -- Nodes put above a path's top, and assignments of them. Assumes nothing.
 use mathlib.Core.Path.{_≡_, refl, sym, ap, ap₂, subst, _∙_}
 use mathlib.Core.Bool.{Bool, true, false}
-use mathlib.Core.List.{List, [], _∷_}
-use Prim.Native.Nat.{ℕ, zero, suc, _+_, _<_, _≤_, max}
+use mathlib.Core.List.{List, []}
+use Prim.Native.Nat.{ℕ, suc, _+_, _<_, _≤_}
 use native.Mathlib.Numerals.{add-one}
 use native.Mathlib.Omega.{arith}
 use lib.Dec.{leb}
 use lib.ListN.{length, getD}
-use Rattle.model.specs.Term.{Term, constant, sum, difference, size}
-use Rattle.model.specs.Policy.{Policy}
-use Rattle.model.specs.Routine.{Routine}
+use Rattle.model.specs.Term.{Term, constant, sum, size}
 use Rattle.model.specs.Linear.{variableBound}
-use Rattle.model.specs.Goals.{Path as ModelPath, termOf, onward, pathTo, assigning, goes, refused, smallEnough, assign}
+use Rattle.model.specs.Goals.{Path as ModelPath, termOf, onward, pathTo, assigning, goes, smallEnough, assign}
 use Rattle.model.specs.declared.Refusal.the-variants.{LargeTerm}
-use Rattle.terms.specs.Workspace.{tableBase, Same}
+use Rattle.terms.specs.Workspace.{tableBase}
 use Rattle.terms.specs.Table.{place, termAt, Formed, Space, Put}
 use Rattle.terms.proofs.Frames.{same-trans, same-within}
 use Rattle.terms.proofs.Table.{term-same, formed-less}
 use Rattle.goals.specs.declared.Path.{Path}
 use Rattle.goals.specs.declared.Progress.{Progress}
+use Rattle.evaluation.specs.declared.assignments.Operation.{Operation}
+use Rattle.evaluation.specs.declared.assignments.Operation.the-variants.{Add, Subtract}
 use Rattle.evaluation.specs.declared.Moved.{Moved}
-use Rattle.evaluation.specs.declared.MovedAnswer.the-variants.{On, Ended, Refused}
-use Rattle.goals.specs.Judging.{Reached}
-use Rattle.goals.specs.Walking.{pathOf, raisedTo, scopeOf, NodeIn, PathIn}
-use Rattle.evaluation.specs.Moves.{steppedTo, writtenTo, RoomFor, Built, Kept, Advanced, MoveJudged, assignedAs, Anywhere, Moves, Assigns}
+use Rattle.evaluation.specs.declared.MovedAnswer.the-variants.{On, Refused}
+use Rattle.goals.specs.Walking.{pathOf, raisedTo, NodeIn, PathIn}
+use Rattle.evaluation.specs.Moves.{steppedTo, writtenTo, RoomFor, Built, Kept, Advanced, MoveJudged, combined, assignedAs, Assigns}
 use Rattle.goals.proofs.Judging.{judges-none}
 use Rattle.evaluation.proofs.Moving.{move-on, move-refused}
 use Rattle.evaluation.proofs.PathLaws.{kept-same, path-held, path-equal, path-higher, path-written, written-path, path-stepped, register-term}
 
 -- ---- nodes above the top
-sum-bound : (s t : Term) (n : ℕ) → variableBound s ≤ n → variableBound t ≤ n → variableBound (sum s t) ≤ n
+combined-bound : (o : Operation) (s t : Term) (n : ℕ) → variableBound s ≤ n → variableBound t ≤ n → variableBound (combined o s t) ≤ n
 unfolding variableBound
-sum-bound s t n h k = omega arith
-
-difference-bound : (s t : Term) (n : ℕ) → variableBound s ≤ n → variableBound t ≤ n → variableBound (difference s t) ≤ n
-unfolding variableBound
-difference-bound s t n h k = omega arith
+combined-bound Add s t n h k = omega arith
+combined-bound Subtract s t n h k = omega arith
 
 constant-bound : (c n : ℕ) → variableBound (constant c) ≤ n
 unfolding variableBound
@@ -60,20 +56,22 @@ module _ {ws us : List ℕ} {path : Path} (w : PathIn ws path) (long : length us
   constant-built {c} u = put-built (constant-bound c (path .variables)) u
 
   module _ {a b x y : ℕ} (ha : a < 16) (hb : b < 16) (ex : x ≡ getD (path .registers) a 0) (ey : y ≡ getD (path .registers) b 0) where
-    pub sum-built : Put ws us (path .top) (sum (termAt ws x) (termAt ws y)) → Built ws us path 1 (path .top) (sum (termOf (pathOf ws path) a) (termOf (pathOf ws path) b))
-    sum-built u = rw (← named-term w ha ex, ← named-term w hb ey) (put-built (sum-bound _ _ (path .variables) (rw ex (w .held a ha .bound)) (rw ey (w .held b hb .bound))) u)
+    pub combined-built : (o : Operation) → Put ws us (path .top) (combined o (termAt ws x) (termAt ws y)) → Built ws us path 1 (path .top) (combined o (termOf (pathOf ws path) a) (termOf (pathOf ws path) b))
+    combined-built o u = rw (← named-term w ha ex, ← named-term w hb ey) (put-built (combined-bound o _ _ (path .variables) (rw ex (w .held a ha .bound)) (rw ey (w .held b hb .bound))) u)
 
-    pub difference-built : Put ws us (path .top) (difference (termAt ws x) (termAt ws y)) → Built ws us path 1 (path .top) (difference (termOf (pathOf ws path) a) (termOf (pathOf ws path) b))
-    difference-built u = rw (← named-term w ha ex, ← named-term w hb ey) (put-built (difference-bound _ _ (path .variables) (rw ex (w .held a ha .bound)) (rw ey (w .held b hb .bound))) u)
-
--- the room for one node, and for the second of two
+-- the room for one node
 pub first-room : {ws : List ℕ} {path : Path} → RoomFor ws path 1 → Formed ws (path .top) × Space ws (path .top) 1
 first-room g = (g .path-in .prepared 0 .formed, record { words = g .words; fits = omega (arith, g .nodes) })
 
-pub pair-room : {ws : List ℕ} {path : Path} {a b x y : ℕ} → RoomFor ws path 1 → a < 16 → b < 16 → x ≡ getD (path .registers) a 0 → y ≡ getD (path .registers) b 0
-    → Formed ws (path .top) × (Space ws (path .top) 1 × ((x < path .top) × (y < path .top)))
-pair-room {path = path} {a} {b} g ha hb ex ey = (first-room g .0, (first-room g .1, (rw ex (g .path-in .held a ha .below), rw ey (g .path-in .held b hb .below))))
+-- the nodes of two registers, and the room for a node over them
+module _ {ws : List ℕ} {path : Path} {a b x y : ℕ} (ha : a < 16) (hb : b < 16) (ex : x ≡ getD (path .registers) a 0) (ey : y ≡ getD (path .registers) b 0) where
+  pub pair-below : PathIn ws path → (x < path .top) × (y < path .top)
+  pair-below w = (rw ex (w .held a ha .below), rw ey (w .held b hb .below))
 
+  pub pair-room : RoomFor ws path 1 → Formed ws (path .top) × (Space ws (path .top) 1 × ((x < path .top) × (y < path .top)))
+  pair-room g = (first-room g .0, (first-room g .1, pair-below (g .path-in)))
+
+-- the room for the second of two
 pub second-room : {ws us : List ℕ} {path : Path} {a x : ℕ} {t : Term} → RoomFor ws path 1 → a < 16 → x ≡ getD (path .registers) a 0 → length us ≡ length ws → Put ws us (path .top) t
     → Formed us (path .top + 1) × (Space us (path .top + 1) 1 × ((x < path .top + 1) × (path .top < path .top + 1)))
 second-room {path = path} {a} g h e long u =
@@ -91,7 +89,7 @@ module _ {ws us vs : List ℕ} {path : Path} (w : PathIn ws path) (long : length
       let left : termAt us x ≡ termOf (pathOf ws path) a = term-same (path .top) (same-within tableBase (place (path .top)) (omega arith) (omega arith) (u .kept)) x inside ∙ named-term w ha ex in
       let bound : variableBound (termAt us x) ≤ path .variables = rw ex (one .path-in .held a ha .bound) in
       let other : variableBound (termAt us (path .top)) ≤ path .variables = one .node-in .bound in
-      let two : Built us vs (raisedTo path (path .top + 1)) 1 (path .top + 1) (sum (termAt us x) (termAt us (path .top))) = put-built (one .path-in) longer (sum-bound _ _ (path .variables) bound other) v in
+      let two : Built us vs (raisedTo path (path .top + 1)) 1 (path .top + 1) (sum (termAt us x) (termAt us (path .top))) = put-built (one .path-in) longer (combined-bound Add _ _ (path .variables) bound other) v in
       let higher : path .top + 1 + 1 ≡ path .top + 2 = omega arith in
       record {
         path-in = subst (λ n. PathIn vs (raisedTo path n)) higher (two .path-in);

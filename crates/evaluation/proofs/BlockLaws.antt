@@ -1,13 +1,12 @@
 -- Laws of the blocks. Assumes nothing.
 use mathlib.Core.Path.{_≡_, refl, sym, ap, ap₂, subst, _∙_}
 use mathlib.Core.Logic.{_≢_}
-use mathlib.Core.Option.{none, some}
 use borrow.Author.Tests.{eq-eqb, ne-eqb}
-use mathlib.Core.List.{List, [], _∷_}
-use Prim.Native.Nat.{ℕ, zero, suc, _+_, _-_, _*_, _<_, _≤_}
+use mathlib.Core.List.{List, []}
+use Prim.Native.Nat.{ℕ, _+_, _-_, _<_, _≤_}
 use native.Mathlib.Omega.{arith}
 use native.Mathlib.Numerals.{add-one}
-use lib.ListN.{length, getD, drop, take, drop-of-length-le}
+use lib.ListN.{length, getD, drop, drop-of-length-le}
 use lib.Seq.{drop-cons}
 use Rattle.model.specs.Term.{Term, constant}
 use Rattle.model.specs.Policy.{Policy}
@@ -20,14 +19,13 @@ use Rattle.model.specs.declared.Verdict.{Verdict}
 use Rattle.model.specs.declared.Refusal.{Refusal}
 use Rattle.model.specs.declared.Refusal.the-variants.{ProofLeft}
 use Rattle.terms.specs.Workspace.{workspaceWords, assumptionBase, Same}
-use Rattle.terms.specs.Table.{place, termAt, Space}
+use Rattle.terms.specs.Table.{termAt}
 use Rattle.terms.proofs.Frames.{same-within}
 use Rattle.linear.specs.Area.{Cleared}
 use Rattle.annotations.specs.Annotations.{annotationAtPlace}
-use Rattle.goals.specs.Judging.{Reached, ReachedAfter, verdictAfter, Judges, JudgesTrace}
-use Rattle.goals.specs.Walking.{pathOf, NodeIn, PathIn, Going, goalRoom}
+use Rattle.goals.specs.Judging.{Reached, ReachedAfter, verdictAfter, JudgesTrace}
+use Rattle.goals.specs.Walking.{pathOf, NodeIn, Going, goalRoom}
 use Rattle.goals.specs.Starting.{Workspace, BlockIn, EntryBlock, AnnotationBlock}
-use Rattle.goals.specs.declared.Path.{Path}
 use Rattle.goals.specs.declared.Progress.{Progress}
 use Rattle.goals.specs.declared.Judged.{Judged}
 use Rattle.goals.specs.declared.Judged.the-variants.{Next, Refused}
@@ -35,7 +33,7 @@ use Rattle.goals.specs.declared.blocks.Block.{Block}
 use Rattle.evaluation.specs.declared.Setting.{Setting}
 use Rattle.evaluation.specs.declared.Arrived.{Arrived}
 use Rattle.evaluation.specs.declared.Arrived.the-variants.{At, Nowhere}
-use Rattle.evaluation.specs.Setting.{Settled, Stands, Fixed, Tables, TablesStand}
+use Rattle.evaluation.specs.Setting.{Stands, Fixed, Tables, TablesStand}
 use Rattle.evaluation.specs.Standing.{AnnotationStands}
 use Rattle.evaluation.specs.Moves.{RoomFor, Kept, ArrivedAs, ReachedThere, Arrives, Walks}
 use Rattle.evaluation.specs.Blocks.{TraceJudged, verdictOf}

@@ -1,8 +1,8 @@
 -- Laws of arrivals, jumps, branches and returns. Assumes nothing.
 use mathlib.Core.Path.{_≡_, refl, sym, ap, ap₂, subst, _∙_}
-use mathlib.Core.Option.{Option, none, some}
-use mathlib.Core.List.{List, [], _∷_}
-use Prim.Native.Nat.{ℕ, zero, suc, _+_, _<_, _≤_}
+use mathlib.Core.Option.{none, some}
+use mathlib.Core.List.{List}
+use Prim.Native.Nat.{ℕ, _+_, _<_, _≤_}
 use native.Mathlib.Omega.{arith}
 use lib.ListN.{length, getD, take}
 use Rattle.model.specs.Term.{Term}
@@ -10,25 +10,27 @@ use Rattle.model.specs.Atom.{Atom}
 use Rattle.model.specs.Result.{value}
 use Rattle.model.specs.Policy.{Policy}
 use Rattle.model.specs.Routine.{Routine}
-use Rattle.model.specs.Expression.{registerCount, expressionAt, atomsAt}
+use Rattle.model.specs.Expression.{registerCount, atomsAt}
 use Rattle.model.specs.Annotation.{Annotation, annotationAt}
 use Rattle.model.specs.Goals.{Goal, Path as ModelPath, Move, goes, ends, refused, arrival, returning, onward, pathTo, assuming, atTarget, jump, branch}
 use Rattle.model.specs.declared.Region.{Region}
+use Rattle.model.specs.declared.Comparison.{Comparison}
+use Rattle.model.specs.declared.Comparison.the-variants.{Equal, Unequal, Less, AtMost}
 use Rattle.model.specs.declared.Refusal.{Refusal}
 use Rattle.model.specs.declared.Refusal.the-variants.{Unannotated}
 use Rattle.terms.specs.Workspace.{tableBase, mostAssumptions, mostTableNodes, workspaceWords, Same}
-use Rattle.terms.specs.Table.{place, termAt, Space}
-use Rattle.terms.proofs.Frames.{same-refl, same-within}
+use Rattle.terms.specs.Table.{place, termAt}
+use Rattle.terms.proofs.Frames.{same-refl}
 use Rattle.terms.proofs.Table.{term-same}
 use Rattle.assumptions.specs.Area.{slot, atomIn}
 use Rattle.assumptions.specs.declared.Assumption.{Assumption}
-use Rattle.annotations.specs.Annotations.{annotationAtPlace, annotationsAt}
+use Rattle.annotations.specs.Annotations.{annotationAtPlace}
 use Rattle.annotations.specs.Search.{positionFrom}
 use Rattle.annotations.specs.declared.search.Found.{Found}
 use Rattle.annotations.specs.declared.search.Found.the-variants.{At as Found-at, Nothing}
 use Rattle.derivation.specs.Regions.{regionsOf, RegionWords}
 use Rattle.goals.specs.Judging.{Reached, ReachedAfter, Judges}
-use Rattle.goals.specs.Walking.{pathOf, raisedTo, NodeIn, PathIn, goalRoom, Going}
+use Rattle.goals.specs.Walking.{pathOf, NodeIn, PathIn, goalRoom, Going}
 use Rattle.goals.specs.Settling.{ArrivalJudged, ReturnJudged}
 use Rattle.goals.specs.Starting.{assumedPath, Assumed}
 use Rattle.goals.specs.declared.Path.{Path}
@@ -41,9 +43,9 @@ use Rattle.evaluation.specs.declared.MovedAnswer.the-variants.{On, Ended
 use Rattle.evaluation.specs.declared.Arrived.{Arrived}
 use Rattle.evaluation.specs.declared.Arrived.the-variants.{At, Nowhere}
 use Rattle.evaluation.specs.Setting.{Tables, TablesStand}
-use Rattle.evaluation.specs.Moves.{steppedTo, RoomFor, Kept, Advanced, Leads, MoveJudged, Moves, endedAs, ArrivedAs, ReachedThere, Arrives}
+use Rattle.evaluation.specs.Moves.{oppositeOf, steppedTo, RoomFor, Kept, Leads, MoveJudged, Moves, endedAs, ArrivedAs, ReachedThere, Arrives}
 use Rattle.evaluation.proofs.Moving.{move-on, move-stopped, move-ended, move-refused}
-use Rattle.evaluation.proofs.PathLaws.{kept-same, kept-then, kept-none, node-equal, node-held, node-wider, path-equal, path-held, path-stepped, room-kept}
+use Rattle.evaluation.proofs.PathLaws.{kept-same, kept-then, node-equal, node-held, node-wider, path-equal, path-stepped, room-kept}
 use Rattle.evaluation.proofs.Standing.{placed-stands, found-inside, found-there, found-nowhere}
 
 -- ---- arrivals
@@ -171,6 +173,13 @@ return-ended {us = us} {bytes} {path = path} j g r e = rw e (record {
 })
 
 -- ---- branches
+-- the nodes of a comparison's opposite
+pub opposite-below : (kind : Comparison) {left right top : ℕ} {o : Assumption} → o ≡ oppositeOf kind left right → (left < top) × (right < top) → (o .left < top) × (o .right < top)
+opposite-below Equal e h = rw e h
+opposite-below Unequal e h = rw e h
+opposite-below Less e h = rw e (h .1, h .0)
+opposite-below AtMost e h = rw e (h .1, h .0)
+
 -- what assuming a condition asks
 pub assume-asks : {ws : List ℕ} {path stepped : Path} {left right i : ℕ} → RoomFor ws path 1 → stepped ≡ steppedTo path i → (left < path .top) × (right < path .top)
     → PathIn ws stepped × (((stepped .assumptions < mostAssumptions) × (stepped .top ≤ mostTableNodes) × (workspaceWords ≤ length ws)) × ((left < stepped .top) × (right < stepped .top)))

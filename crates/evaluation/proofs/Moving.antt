@@ -1,26 +1,25 @@
 -- What comes of a move and of a walk, over the definitions. Assumes nothing.
-use mathlib.Core.Path.{_≡_, refl, sym, ap, subst, _∙_}
+use mathlib.Core.Path.{_≡_, refl, ap, _∙_}
 use mathlib.Core.Option.{Option, none, some}
-use mathlib.Core.List.{List, [], _∷_}
-use Prim.Native.Nat.{ℕ, zero, suc, _+_, _-_, _<_, _≤_}
+use mathlib.Core.List.{List}
+use Prim.Native.Nat.{ℕ, suc, _-_, _<_}
 use native.Mathlib.Omega.{arith}
-use lib.ListN.{length, getD, drop}
+use lib.ListN.{length, getD}
 use Rattle.model.specs.Term.{Term}
 use Rattle.model.specs.Policy.{Policy}
 use Rattle.model.specs.Annotation.{Annotation, annotationAt}
 use Rattle.model.specs.Routine.{Routine}
-use Rattle.model.specs.Goals.{Goal, Path, Trace, finish, goals, append, Move, goes, ends, refused, arrival, landing, tracing, move, walk}
+use Rattle.model.specs.Goals.{Goal, Path, append, Move, goes, ends, refused, arrival, landing, tracing, move, walk}
 use Rattle.model.specs.Verdict.{judge}
 use Rattle.model.specs.declared.Refusal.{Refusal}
 use Rattle.model.specs.declared.Refusal.the-variants.{PastLast}
-use Rattle.model.specs.declared.Instruction.{Instruction}
 use Rattle.model.specs.declared.Instruction.the-variants.{Return}
 use Rattle.goals.specs.declared.Progress.{Progress}
 use Rattle.goals.specs.declared.Judged.{Judged}
 use Rattle.goals.specs.declared.Judged.the-variants.{Next as Judged-on, Refused as Judged-refused}
 use Rattle.evaluation.specs.declared.MovedAnswer.the-variants.{On, Ended, Refused}
 use Rattle.goals.specs.Judging.{Judges, JudgesTrace}
-use Rattle.evaluation.specs.Moves.{landed, MoveJudged, endedAs}
+use Rattle.evaluation.specs.Moves.{MoveJudged, endedAs}
 use Rattle.goals.proofs.Judging.{append-goals, goals-end}
 
 module _ {bytes : List ℕ} {policy : Policy} {routine : Routine} {credit : Term} {p : Progress} where

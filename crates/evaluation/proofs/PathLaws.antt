@@ -1,27 +1,23 @@
 -- A path in the words of the workspace: what keeps it, and what changes it. Assumes nothing.
-use mathlib.Core.Path.{_≡_, refl, sym, ap, ap₂, subst, _∙_}
-use mathlib.Core.Logic.{_≢_}
+use mathlib.Core.Path.{_≡_, refl, sym, ap, ap₂, _∙_}
 use mathlib.Core.List.{List, [], _∷_, map}
-use Prim.Native.Nat.{ℕ, zero, suc, _+_, _<_, _≤_, max}
+use Prim.Native.Nat.{ℕ, zero, suc, _+_, _<_, _≤_}
 use native.Mathlib.Nat.{not-suc-le-zero, le-of-suc-le-suc}
-use native.Mathlib.Numerals.{add-one}
 use native.Mathlib.Decide.{ℕ-discrete}
 use native.Mathlib.Omega.{arith}
 use lib.ListN.{length, getD, set, length-set}
 use lib.Seq.{getD-set-same, getD-set-other}
 use Rattle.model.specs.Term.{Term, constant}
-use Rattle.model.specs.Linear.{variableBound}
-use Rattle.model.specs.Goals.{Path as ModelPath, assigning, termOf}
-use Rattle.terms.specs.Workspace.{tableBase, assumptionBase, mostVariables, mostAssumptions, Same}
-use Rattle.terms.specs.Table.{place, termAt, Formed, Put, Space}
+use Rattle.model.specs.Goals.{assigning, termOf}
+use Rattle.terms.specs.Workspace.{tableBase, assumptionBase, mostAssumptions, Same}
+use Rattle.terms.specs.Table.{place, termAt, Formed}
 use Rattle.terms.proofs.Frames.{same-refl, same-trans, same-within}
 use Rattle.terms.proofs.Table.{term-same, formed-same}
 use Rattle.assumptions.specs.Area.{slot, listed}
 use Rattle.assumptions.proofs.Laws.{held-same, listed-same, held-fewer}
-use Rattle.derivation.specs.Deriving.{Prepared}
 use Rattle.derivation.specs.Opening.{registerNodes}
 use Rattle.goals.specs.declared.Path.{Path}
-use Rattle.goals.specs.Walking.{pathOf, raisedTo, scopeOf, NodeIn, PathIn}
+use Rattle.goals.specs.Walking.{pathOf, raisedTo, NodeIn, PathIn}
 use Rattle.evaluation.specs.Moves.{steppedTo, writtenTo, oneVariable, RoomFor, Kept}
 
 -- ---- lists

@@ -10,9 +10,9 @@ use lib.ListN.{length, getD, take}
 use lib.Seq.{getD-take, length-take-le}
 use lib.Dec.{leb, ltb}
 use borrow.Author.Tests.{ltb-true, leb-true}
-use Rattle.model.specs.Result.{Result, stop, value, _>>=_, check, stopAs}
+use Rattle.model.specs.Result.{value, _>>=_, check, stopAs}
 use Rattle.model.specs.Policy.{Policy}
-use Rattle.model.specs.Field.{ReadError, missing, byteAt, halfAt}
+use Rattle.model.specs.Field.{missing, byteAt, halfAt}
 use Rattle.model.specs.Expression.{registerCount, expressionAt, atomsAt}
 use Rattle.model.specs.Package.{proofStart}
 use Rattle.model.specs.Annotation.{Annotation, annotationAt, annotationRefusal, annotationFrom}
@@ -28,7 +28,7 @@ use Rattle.annotations.specs.Search.{positionFrom}
 use Rattle.annotations.specs.declared.search.Found.{Found}
 use Rattle.annotations.specs.declared.search.Found.the-variants.{At, Nothing}
 use Rattle.annotations.proofs.Searches.{found-annotation, no-annotation}
-use Rattle.policy.specs.Policy.{policyOf, Checked}
+use Rattle.policy.specs.Policy.{policyOf}
 use Rattle.evaluation.specs.declared.Setting.{Setting}
 use Rattle.evaluation.specs.Setting.{Settled, Stands}
 use Rattle.evaluation.specs.Standing.{AnnotationStands}

@@ -1,33 +1,29 @@
 -- Laws of the walk along a path, one for each way out. Assumes nothing.
-use mathlib.Core.Path.{_≡_, refl, sym, ap, ap₂, subst, _∙_}
-use mathlib.Core.Logic.{_≢_}
-use mathlib.Core.Option.{none, some}
-use mathlib.Core.List.{List, [], _∷_}
-use Prim.Native.Nat.{ℕ, zero, suc, _+_, _-_, _<_, _≤_}
+use mathlib.Core.Path.{_≡_, sym, ap, subst, _∙_}
+use mathlib.Core.List.{List}
+use Prim.Native.Nat.{ℕ, _+_, _-_, _<_, _≤_}
 use native.Mathlib.Omega.{arith}
 use lib.ListN.{length, getD}
-use Rattle.model.specs.Result.{Result, stop, value}
+use Rattle.model.specs.Result.{stop, value}
 use Rattle.model.specs.Term.{Term}
 use Rattle.model.specs.Policy.{Policy}
 use Rattle.model.specs.Routine.{Routine}
-use Rattle.model.specs.Package.{readCode}
 use Rattle.model.specs.Annotation.{annotationAt}
-use Rattle.model.specs.Goals.{Path as ModelPath, Move, move, walk}
+use Rattle.model.specs.Goals.{Path as ModelPath, move, walk}
 use Rattle.model.specs.declared.Header.{Header}
 use Rattle.model.specs.declared.Refusal.{Refusal}
 use Rattle.model.specs.declared.Refusal.the-variants.{PastLast}
 use Rattle.model.specs.declared.Instruction.{Instruction}
 use Rattle.model.specs.declared.Instruction.the-variants.{Return}
 use Rattle.terms.specs.Workspace.{assumptionBase, Same}
-use Rattle.terms.specs.Table.{place, termAt}
+use Rattle.terms.specs.Table.{termAt}
 use Rattle.terms.proofs.Frames.{same-refl, same-trans, same-within}
-use Rattle.routine.specs.Headers.{Fits}
-use Rattle.routine.specs.Code.{Formed, instructionResult, instructionAt, FormedIfPassed, InstructionRead}
+use Rattle.routine.specs.Code.{Formed, instructionResult, FormedIfPassed, InstructionRead}
 use Rattle.routine.specs.declared.instructions.InstructionAnswer.{InstructionAnswer}
 use Rattle.routine.specs.declared.instructions.InstructionAnswer.the-variants as read
 use Rattle.routine.proofs.Facts.{code-at}
-use Rattle.goals.specs.Judging.{Reached, ReachedAfter, Judges, JudgesTrace}
-use Rattle.goals.specs.Walking.{pathOf, NodeIn, PathIn, Going, goalRoom}
+use Rattle.goals.specs.Judging.{Reached, JudgesTrace}
+use Rattle.goals.specs.Walking.{pathOf, NodeIn, Going, goalRoom}
 use Rattle.goals.specs.declared.Path.{Path}
 use Rattle.goals.specs.declared.Progress.{Progress}
 use Rattle.goals.specs.declared.Judged.{Judged}
@@ -38,8 +34,8 @@ use Rattle.evaluation.specs.declared.MovedAnswer.{MovedAnswer}
 use Rattle.evaluation.specs.declared.MovedAnswer.the-variants.{On, Ended, Refused}
 use Rattle.evaluation.specs.declared.Arrived.{Arrived}
 use Rattle.evaluation.specs.declared.Arrived.the-variants.{At, Nowhere}
-use Rattle.evaluation.specs.Setting.{Settled, Stands, Fixed, Tables, TablesStand}
-use Rattle.evaluation.specs.Moves.{RoomFor, Kept, Advanced, Leads, MoveJudged, Moves, Advances, ArrivedAs, ReachedThere, Arrives, Fetched, Walks}
+use Rattle.evaluation.specs.Setting.{Stands, Fixed, Tables, TablesStand}
+use Rattle.evaluation.specs.Moves.{RoomFor, Kept, Advanced, Leads, MoveJudged, Advances, ArrivedAs, ReachedThere, Arrives, Fetched, Walks}
 use Rattle.evaluation.proofs.Moving.{moveAt, walk-past, walk-refused, walk-ended, walk-onward, walk-arrived}
 use Rattle.evaluation.proofs.PathLaws.{kept-same, node-equal, node-held, node-wider, path-equal, room-kept}
 use Rattle.evaluation.proofs.Standing.{code-long}

@@ -2,18 +2,20 @@
 use mathlib.Core.Path.{_≡_}
 use mathlib.Core.Bool.{Bool, true, false}
 use mathlib.Core.Option.{Option, none, some}
-use mathlib.Core.List.{List, [], _∷_}
-use Prim.Native.Nat.{ℕ, _+_, _*_, _<_, _≤_}
+use mathlib.Core.List.{List}
+use Prim.Native.Nat.{ℕ, _+_, _*_, _≤_}
 use lib.ListN.{length, getD, set}
-use Rattle.model.specs.Term.{Term}
+use Rattle.model.specs.Term.{Term, sum, difference}
 use Rattle.model.specs.Policy.{Policy}
 use Rattle.model.specs.Result.{value}
 use Rattle.model.specs.Package.{mostInstructions, readCode}
 use Rattle.model.specs.Annotation.{Annotation, annotationAt}
 use Rattle.model.specs.Routine.{Routine}
-use Rattle.model.specs.Goals.{Path as ModelPath, Trace, append, Move, arrival, assign, landing, tracing, onward, loading, move, walk}
+use Rattle.model.specs.Goals.{Path as ModelPath, Trace, append, Move, arrival, assign, landing, tracing, onward, loading, branch, move, walk}
 use Rattle.model.specs.Verdict.{refusing, judge}
 use Rattle.model.specs.declared.Region.{Region}
+use Rattle.model.specs.declared.Comparison.{Comparison}
+use Rattle.model.specs.declared.Comparison.the-variants.{Equal, Unequal, Less, AtMost}
 use Rattle.model.specs.declared.Header.{Header}
 use Rattle.model.specs.declared.Instruction.{Instruction}
 use Rattle.model.specs.declared.Instruction.the-variants.{Return}
@@ -21,7 +23,8 @@ use Rattle.model.specs.declared.Verdict.{Verdict}
 use Rattle.model.specs.declared.Refusal.the-variants.{LargeTerm}
 use Rattle.terms.specs.Workspace.{workspaceWords, mostAssumptions, assumptionBase, tableBase, mostTableNodes, Same}
 use Rattle.terms.specs.Table.{termAt, place}
-use Rattle.assumptions.specs.Area.{slot}
+use Rattle.assumptions.specs.Area.{slot, atomIn}
+use Rattle.assumptions.specs.declared.Assumption.{Assumption}
 use Rattle.routine.specs.Code.{Formed}
 use Rattle.goals.specs.Judging.{Reached, ReachedAfter, Judges, JudgesTrace}
 use Rattle.goals.specs.Walking.{pathOf, raisedTo, NodeIn, PathIn, goalRoom}
@@ -31,6 +34,8 @@ use Rattle.goals.specs.declared.Judged.{Judged}
 use Rattle.goals.specs.declared.Judged.the-variants.{Next as JudgedNext, Refused as JudgedRefused}
 use Rattle.evaluation.specs.Setting.{Stands}
 use Rattle.evaluation.specs.declared.Setting.{Setting}
+use Rattle.evaluation.specs.declared.assignments.Operation.{Operation}
+use Rattle.evaluation.specs.declared.assignments.Operation.the-variants.{Add, Subtract}
 use Rattle.evaluation.specs.declared.Moved.{Moved}
 use Rattle.evaluation.specs.declared.MovedAnswer.{MovedAnswer}
 use Rattle.evaluation.specs.declared.MovedAnswer.the-variants.{On, Ended, Refused}
@@ -117,6 +122,25 @@ pub record Moves (ws us bytes : List ℕ) (Where : Policy → Routine → Type 0
 unfoldable pub assignedAs : Bool → Path → (d node : ℕ) → Progress → Moved
 assignedAs true path d node p = record { path = steppedTo (writtenTo path d node) (path .counter + 1); answer = On p }
 assignedAs false path d node p = record { path = path; answer = Refused (LargeTerm (path .counter)) (p .goals) }
+
+-- the term of an operation
+abbrev pub combined : Operation → Term → Term → Term
+combined Add s t = sum s t
+combined Subtract s t = difference s t
+
+-- the comparison that holds where another does not
+abbrev pub oppositeOf : Comparison → (left right : ℕ) → Assumption
+oppositeOf Equal l r = record { kind = Unequal; left = l; right = r }
+oppositeOf Unequal l r = record { kind = Equal; left = l; right = r }
+oppositeOf Less l r = record { kind = AtMost; left = r; right = l }
+oppositeOf AtMost l r = record { kind = Less; left = r; right = l }
+
+-- what a branch by a comparison of registers a and b owes
+abbrev pub Branches : (ws us bytes : List ℕ) → (Policy → Routine → Type 0) → (credit : Term) → Path → Comparison → (a b target : ℕ) → Progress → Moved → Type 0
+Branches ws us bytes Where credit path kind a b target p r =
+    let x = getD (path .registers) a 0 in
+    let y = getD (path .registers) b 0 in
+    Moves ws us bytes Where credit (λ policy routine. branch policy routine credit (pathOf ws path) target (atomIn ws (record { kind = kind; left = x; right = y })) (atomIn ws (oppositeOf kind x y))) path p r
 
 -- what an instruction of a path owes
 abbrev pub Advances : (ws us bytes policyBytes places : List ℕ) → Setting → (credit : Term) → Path → Instruction → Progress → Moved → Type 0

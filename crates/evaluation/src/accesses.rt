@@ -16,7 +16,7 @@ ghost use Rattle.goals.specs.Walking.{pathOf};
 ghost use Rattle.evaluation.specs.Moves.{RoomFor, Accesses, Loads};
 
 // Register d is the next variable.
-fn loaded(ws: &mut [u32], path: Path, d: usize, progress: Progress) -> Moved
+fn loaded(ws: &mut [u32], path: Path, d: u8, progress: Progress) -> Moved
     requires { ⌜ d < 16 ⌝ }
     requires { ⌜ RoomFor (now ws) path 1 ⌝ }
     ensures { λ r. ⌜ Loads (now (ws .entry)) (now (ws .exit)) path d progress r ⌝ }
@@ -38,8 +38,8 @@ pub fn load(
     count: usize,
     ws: &mut [u32],
     path: Path,
-    d: usize,
-    a: usize,
+    d: u8,
+    a: u8,
     i: u32,
     progress: Progress,
 ) -> Moved
@@ -77,7 +77,7 @@ pub fn store(
     count: usize,
     ws: &mut [u32],
     path: Path,
-    a: usize,
+    a: u8,
     i: u32,
     progress: Progress,
 ) -> Moved

@@ -9,14 +9,20 @@ use model::Refusal;
 ghost use mathlib.Core.Path.{_≡_};
 ghost use Prim.Native.Nat.{suc, _<_};
 ghost use lib.Dec.{leb};
-ghost use Rattle.model.specs.Term.{constant, sum, difference, size};
+ghost use Rattle.model.specs.Term.{constant, sum, size};
 ghost use Rattle.model.specs.Goals.{termOf};
 ghost use Rattle.terms.specs.Table.{termAt, Formed};
 ghost use Rattle.goals.specs.Walking.{pathOf};
-ghost use Rattle.evaluation.specs.Moves.{RoomFor, assignedAs, Assigns};
+ghost use Rattle.evaluation.specs.Moves.{RoomFor, Built, combined, assignedAs, Assigns};
+
+// The operations on two registers.
+pub enum Operation {
+    Add,
+    Subtract,
+}
 
 // Register d takes the term of a node, if that has at most 255 nodes, and the path goes on; else it is refused at its counter.
-fn assign(ws: &[u32], path: Path, d: usize, node: usize, progress: Progress) -> Moved
+fn assign(ws: &[u32], path: Path, d: u8, node: usize, progress: Progress) -> Moved
     requires { ⌜ d < 16 ⌝ }
     requires { ⌜ (path .steps < 256) × (path .counter < 256) ⌝ }
     requires { ⌜ (node < 65536) × Formed (now ws) (suc node) ⌝ }
@@ -35,7 +41,7 @@ fn assign(ws: &[u32], path: Path, d: usize, node: usize, progress: Progress) -> 
 }
 
 // d := i
-pub fn set(ws: &mut [u32], path: Path, d: usize, i: u32, progress: Progress) -> Moved
+pub fn set(ws: &mut [u32], path: Path, d: u8, i: u32, progress: Progress) -> Moved
     requires { ⌜ d < 16 ⌝ }
     requires { ⌜ RoomFor (now ws) path 1 ⌝ }
     ensures { λ r. ⌜ Assigns (now (ws .entry)) (now (ws .exit)) path d (constant i) progress r ⌝ }
@@ -45,26 +51,42 @@ pub fn set(ws: &mut [u32], path: Path, d: usize, i: u32, progress: Progress) -> 
     assign(ws, goals::raised(path, top + 1), d, top, progress)
 }
 
-// d := a + b
-pub fn add(ws: &mut [u32], path: Path, d: usize, a: usize, b: usize, progress: Progress) -> Moved
-    requires { ⌜ (d < 16) × (a < 16) × (b < 16) ⌝ }
+// Puts the sum or the difference of the terms of registers a and b above the path's top.
+fn put_combined(ws: &mut [u32], path: Path, operation: Operation, a: u8, b: u8)
+    requires { ⌜ (a < 16) × (b < 16) ⌝ }
     requires { ⌜ RoomFor (now ws) path 1 ⌝ }
-    ensures { λ r. ⌜ Assigns (now (ws .entry)) (now (ws .exit)) path d (sum (termOf (pathOf (now (ws .entry)) path) a) (termOf (pathOf (now (ws .entry)) path) b)) progress r ⌝ }
+    ensures { λ _. ⌜ Built (now (ws .entry)) (now (ws .exit)) path 1 (path .top) (combined operation (termOf (pathOf (now (ws .entry)) path) a) (termOf (pathOf (now (ws .entry)) path) b)) ⌝ }
 {
     let top = path.top;
-    terms::put_sum(ws, top, paths::node(path, a), paths::node(path, b));
+    let left = paths::node(path, a);
+    let right = paths::node(path, b);
+    match operation {
+        Operation::Add => terms::put_sum(ws, top, left, right),
+        Operation::Subtract => terms::put_difference(ws, top, left, right),
+    }
+}
+
+// d := a + b, or d := a - b
+pub fn combine(
+    ws: &mut [u32],
+    path: Path,
+    operation: Operation,
+    d: u8,
+    a: u8,
+    b: u8,
+    progress: Progress,
+) -> Moved
+    requires { ⌜ (d < 16) × (a < 16) × (b < 16) ⌝ }
+    requires { ⌜ RoomFor (now ws) path 1 ⌝ }
+    ensures { λ r. ⌜ Assigns (now (ws .entry)) (now (ws .exit)) path d (combined operation (termOf (pathOf (now (ws .entry)) path) a) (termOf (pathOf (now (ws .entry)) path) b)) progress r ⌝ }
+{
+    let top = path.top;
+    put_combined(ws, path, operation, a, b);
     assign(ws, goals::raised(path, top + 1), d, top, progress)
 }
 
 // d := a + i
-pub fn add_immediate(
-    ws: &mut [u32],
-    path: Path,
-    d: usize,
-    a: usize,
-    i: u32,
-    progress: Progress,
-) -> Moved
+pub fn add_immediate(ws: &mut [u32], path: Path, d: u8, a: u8, i: u32, progress: Progress) -> Moved
     requires { ⌜ (d < 16) × (a < 16) ⌝ }
     requires { ⌜ RoomFor (now ws) path 1 ⌝ }
     ensures { λ r. ⌜ Assigns (now (ws .entry)) (now (ws .exit)) path d (sum (termOf (pathOf (now (ws .entry)) path) a) (constant i)) progress r ⌝ }
@@ -72,22 +94,4 @@ pub fn add_immediate(
     let top = path.top;
     paths::put_sum_with(ws, path, a, i);
     assign(ws, goals::raised(path, top + 2), d, top + 1, progress)
-}
-
-// d := a - b
-pub fn subtract(
-    ws: &mut [u32],
-    path: Path,
-    d: usize,
-    a: usize,
-    b: usize,
-    progress: Progress,
-) -> Moved
-    requires { ⌜ (d < 16) × (a < 16) × (b < 16) ⌝ }
-    requires { ⌜ RoomFor (now ws) path 1 ⌝ }
-    ensures { λ r. ⌜ Assigns (now (ws .entry)) (now (ws .exit)) path d (difference (termOf (pathOf (now (ws .entry)) path) a) (termOf (pathOf (now (ws .entry)) path) b)) progress r ⌝ }
-{
-    let top = path.top;
-    terms::put_difference(ws, top, paths::node(path, a), paths::node(path, b));
-    assign(ws, goals::raised(path, top + 1), d, top, progress)
 }

@@ -6,7 +6,6 @@ use crate::walks;
 use goals;
 use goals::Judged;
 use goals::Progress;
-ghost use mathlib.Core.Path.{_≡_};
 ghost use Prim.Native.Nat.{_<_};
 ghost use lib.ListN.{getD};
 ghost use Rattle.model.specs.Goals.{entryBlock, annotationBlock, annotationBlocks, traceOf};

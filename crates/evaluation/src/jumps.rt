@@ -12,20 +12,20 @@ use goals::Judged;
 use goals::Path;
 use goals::Progress;
 use goals::blocks;
+use model::Comparison;
 use model::Refusal;
 ghost use mathlib.Core.Path.{_≡_};
 ghost use Prim.Native.Nat.{ℕ, _≤_, _<_};
 ghost use lib.ListN.{length};
 ghost use Rattle.model.specs.Result.{value};
 ghost use Rattle.model.specs.Expression.{registerCount, atomsAt};
-ghost use Rattle.model.specs.Goals.{jump, branch, pathTo, ends, returning};
+ghost use Rattle.model.specs.Goals.{jump, pathTo, ends, returning};
 ghost use Rattle.terms.specs.Table.{termAt};
-ghost use Rattle.assumptions.specs.Area.{atomIn};
 ghost use Rattle.derivation.specs.Regions.{regionsOf, RegionWords};
 ghost use Rattle.goals.specs.Judging.{Reached};
 ghost use Rattle.goals.specs.Walking.{pathOf, NodeIn, Going, goalRoom};
 ghost use Rattle.evaluation.specs.Setting.{Tables, TablesStand};
-ghost use Rattle.evaluation.specs.Moves.{endedAs, RoomFor, Moves, Arrives};
+ghost use Rattle.evaluation.specs.Moves.{endedAs, oppositeOf, RoomFor, Moves, Branches, Arrives};
 
 // The goals of a path's arrival at its counter, if that is annotated.
 pub fn arrive(
@@ -130,7 +130,35 @@ pub fn jump_to(
     }
 }
 
-// jump to a target if a condition holds: the goals of the taken edge, where the condition is assumed, and then on with the opposite
+// The comparison that holds where another does not.
+fn opposite(kind: Comparison, left: usize, right: usize) -> Assumption
+    ensures { λ r. ⌜ r ≡ oppositeOf kind left right ⌝ }
+{
+    match kind {
+        Comparison::Equal => Assumption {
+            kind: Comparison::Unequal,
+            left,
+            right,
+        },
+        Comparison::Unequal => Assumption {
+            kind: Comparison::Equal,
+            left,
+            right,
+        },
+        Comparison::Less => Assumption {
+            kind: Comparison::AtMost,
+            left: right,
+            right: left,
+        },
+        Comparison::AtMost => Assumption {
+            kind: Comparison::Less,
+            left: right,
+            right: left,
+        },
+    }
+}
+
+// jump to a target if a comparison of registers a and b holds: the goals of the taken edge, where the condition is assumed, and then on with the opposite
 pub fn branch_to(
     bytes: &[u8],
     regions: &[u32],
@@ -140,9 +168,10 @@ pub fn branch_to(
     ws: &mut [u32],
     credit: usize,
     path: Path,
+    kind: Comparison,
+    a: u8,
+    b: u8,
     target: u32,
-    taken: Assumption,
-    opposite: Assumption,
     progress: Progress,
 ) -> Moved
     requires { ⌜ Tables (now bytes) (now regions) (now indexes) (now places) setting ⌝ }
@@ -150,13 +179,13 @@ pub fn branch_to(
     requires { ⌜ NodeIn (now ws) path credit ⌝ }
     requires { ⌜ Reached (now bytes) progress ⌝ }
     requires { ⌜ target ≤ 256 ⌝ }
-    requires { ⌜ (taken .left < path .top) × (taken .right < path .top) ⌝ }
-    requires { ⌜ (opposite .left < path .top) × (opposite .right < path .top) ⌝ }
-    ensures { λ r. ⌜ Moves (now (ws .entry)) (now (ws .exit)) (now (bytes .entry)) (TablesStand (now (bytes .entry)) (now (regions .entry)) (now (places .entry)) setting) (termAt (now (ws .entry)) credit) (λ policy routine. branch policy routine (termAt (now (ws .entry)) credit) (pathOf (now (ws .entry)) path) target (atomIn (now (ws .entry)) taken) (atomIn (now (ws .entry)) opposite)) path progress r ⌝ }
+    requires { ⌜ (a < 16) × (b < 16) ⌝ }
+    ensures { λ r. ⌜ Branches (now (ws .entry)) (now (ws .exit)) (now (bytes .entry)) (TablesStand (now (bytes .entry)) (now (regions .entry)) (now (places .entry)) setting) (termAt (now (ws .entry)) credit) path kind a b target progress r ⌝ }
 {
-    let kind = taken.kind;
+    let left = paths::node(path, a);
+    let right = paths::node(path, b);
     let stepped = paths::stepped(path, fields::wide(target));
-    let there = blocks::assuming(ws, stepped, kind, taken.left, taken.right);
+    let there = blocks::assuming(ws, stepped, kind, left, right);
     let arrived = arrive(
         bytes,
         regions,
@@ -174,8 +203,9 @@ pub fn branch_to(
     let Judged::Next(after) = judged else {
         return ended(path, judged);
     };
-    let other = opposite.kind;
     let next = paths::stepped(path, path.counter + 1);
+    let opposite = opposite(kind, left, right);
+    let other = opposite.kind;
     let on = blocks::assuming(ws, next, other, opposite.left, opposite.right);
     Moved {
         path: on,

@@ -1,7 +1,7 @@
 // Changes of a path.
 use goals::Path;
 ghost use mathlib.Core.Path.{_≡_};
-ghost use Prim.Native.Nat.{_+_, _≤_, _<_, _^_};
+ghost use Prim.Native.Nat.{_+_, _<_, _^_};
 ghost use lib.ListN.{getD};
 ghost use Rattle.model.specs.Term.{constant, sum};
 ghost use Rattle.model.specs.Goals.{termOf};
@@ -19,24 +19,24 @@ pub fn stepped(mut path: Path, index: usize) -> Path
 }
 
 // Register d is a node.
-pub fn written(mut path: Path, d: usize, node: usize) -> Path
+pub fn written(mut path: Path, d: u8, node: usize) -> Path
     requires { ⌜ (d < 16) × (node < 2 ^ 32) ⌝ }
     ensures { λ r. ⌜ r ≡ writtenTo path d node ⌝ }
 {
-    path.registers[d] = node as u32;
+    path.registers[d as usize] = node as u32;
     path
 }
 
 // The node of a register.
-pub fn node(path: Path, register: usize) -> usize
+pub fn node(path: Path, register: u8) -> usize
     requires { ⌜ register < 16 ⌝ }
     ensures { λ r. ⌜ r ≡ getD (path .registers) register 0 ⌝ }
 {
-    fields::wide(path.registers[register])
+    fields::wide(path.registers[register as usize])
 }
 
 // Puts a constant i and the sum of register a's term with it above the path's top.
-pub fn put_sum_with(ws: &mut [u32], path: Path, a: usize, i: u32)
+pub fn put_sum_with(ws: &mut [u32], path: Path, a: u8, i: u32)
     requires { ⌜ a < 16 ⌝ }
     requires { ⌜ RoomFor (now ws) path 1 ⌝ }
     ensures { λ _. ⌜ Built (now (ws .entry)) (now (ws .exit)) path 2 (path .top + 1) (sum (termOf (pathOf (now (ws .entry)) path) a) (constant i)) ⌝ }

@@ -5,9 +5,8 @@ use crate::MovedAnswer;
 use crate::Setting;
 use crate::accesses;
 use crate::assignments;
+use crate::assignments::Operation;
 use crate::jumps;
-use crate::paths;
-use assumptions::Assumption;
 use goals::Judged;
 use goals::Path;
 use goals::Progress;
@@ -18,8 +17,7 @@ use model::Refusal;
 use routine::instructions;
 use routine::instructions::InstructionAnswer;
 ghost use mathlib.Core.Path.{_≡_};
-ghost use Prim.Native.Nat.{_+_, _≤_, _<_};
-ghost use lib.ListN.{getD};
+ghost use Prim.Native.Nat.{_+_, _<_};
 ghost use Rattle.terms.specs.Table.{termAt};
 ghost use Rattle.routine.specs.Headers.{Fits};
 ghost use Rattle.routine.specs.Code.{Formed};
@@ -27,25 +25,6 @@ ghost use Rattle.goals.specs.Judging.{Reached};
 ghost use Rattle.goals.specs.Walking.{NodeIn};
 ghost use Rattle.evaluation.specs.Setting.{Fixed};
 ghost use Rattle.evaluation.specs.Moves.{RoomFor, Fetched, Advances, Walks};
-
-// A register's number.
-fn register(x: u8) -> usize
-    ensures { λ r. ⌜ r ≡ x ⌝ }
-{
-    x as usize
-}
-
-// A comparison of two registers' terms.
-fn condition(path: Path, kind: Comparison, a: usize, b: usize) -> Assumption
-    requires { ⌜ (a < 16) × (b < 16) ⌝ }
-    ensures { λ r. ⌜ r ≡ record { kind = kind; left = getD (path .registers) a 0; right = getD (path .registers) b 0 } ⌝ }
-{
-    Assumption {
-        kind,
-        left: paths::node(path, a),
-        right: paths::node(path, b),
-    }
-}
 
 // The instruction at an index; checks 8 and 9 have passed it.
 fn fetch(bytes: &[u8], header: Header, index: usize) -> Instruction
@@ -84,86 +63,64 @@ fn advance(
     let policy = setting.policy;
     let count = policy.count;
     match instruction {
-        Instruction::Set { d, i } => assignments::set(ws, path, register(d), i, progress),
+        Instruction::Set { d, i } => assignments::set(ws, path, d, i, progress),
         Instruction::Add { d, a, b } => {
-            assignments::add(ws, path, register(d), register(a), register(b), progress)
+            assignments::combine(ws, path, Operation::Add, d, a, b, progress)
         }
         Instruction::AddImmediate { d, a, i } => {
-            assignments::add_immediate(ws, path, register(d), register(a), i, progress)
+            assignments::add_immediate(ws, path, d, a, i, progress)
         }
         Instruction::Subtract { d, a, b } => {
-            assignments::subtract(ws, path, register(d), register(a), register(b), progress)
+            assignments::combine(ws, path, Operation::Subtract, d, a, b, progress)
         }
         Instruction::Load { d, a, i } => {
-            accesses::load(
-                bytes,
-                regions,
-                count,
-                ws,
-                path,
-                register(d),
-                register(a),
-                i,
-                progress,
-            )
+            accesses::load(bytes, regions, count, ws, path, d, a, i, progress)
         }
         Instruction::Store { d: _, a, i } => {
-            accesses::store(bytes, regions, count, ws, path, register(a), i, progress)
+            accesses::store(bytes, regions, count, ws, path, a, i, progress)
         }
-        Instruction::Jump { i } => {
-            jumps::jump_to(
-                bytes,
-                regions,
-                indexes,
-                places,
-                setting,
-                ws,
-                credit,
-                path,
-                i,
-                progress,
-            )
-        }
-        Instruction::JumpLess { a, b, i } => {
-            let left = register(a);
-            let right = register(b);
-            let taken = condition(path, Comparison::Less, left, right);
-            let opposite = condition(path, Comparison::AtMost, right, left);
-            jumps::branch_to(
-                bytes,
-                regions,
-                indexes,
-                places,
-                setting,
-                ws,
-                credit,
-                path,
-                i,
-                taken,
-                opposite,
-                progress,
-            )
-        }
-        Instruction::JumpEqual { a, b, i } => {
-            let left = register(a);
-            let right = register(b);
-            let taken = condition(path, Comparison::Equal, left, right);
-            let opposite = condition(path, Comparison::Unequal, left, right);
-            jumps::branch_to(
-                bytes,
-                regions,
-                indexes,
-                places,
-                setting,
-                ws,
-                credit,
-                path,
-                i,
-                taken,
-                opposite,
-                progress,
-            )
-        }
+        Instruction::Jump { i } => jumps::jump_to(
+            bytes,
+            regions,
+            indexes,
+            places,
+            setting,
+            ws,
+            credit,
+            path,
+            i,
+            progress,
+        ),
+        Instruction::JumpLess { a, b, i } => jumps::branch_to(
+            bytes,
+            regions,
+            indexes,
+            places,
+            setting,
+            ws,
+            credit,
+            path,
+            Comparison::Less,
+            a,
+            b,
+            i,
+            progress,
+        ),
+        Instruction::JumpEqual { a, b, i } => jumps::branch_to(
+            bytes,
+            regions,
+            indexes,
+            places,
+            setting,
+            ws,
+            credit,
+            path,
+            Comparison::Equal,
+            a,
+            b,
+            i,
+            progress,
+        ),
         Instruction::Return => jumps::return_from(
             conditions,
             policy.postcondition,

@@ -2,7 +2,7 @@
 use mathlib.Core.Path.{_≡_, sym, ap, ap₂, subst, _∙_}
 use mathlib.Core.Logic.{_⊎_}
 use mathlib.Core.List.{List, map}
-use Prim.Native.Nat.{ℕ, _+_, _-_, _<_, _≤_}
+use Prim.Native.Nat.{ℕ, _+_, _<_, _≤_}
 use native.Mathlib.Omega.{arith}
 use lib.ListN.{length, getD}
 use denote.Enum.Declared.{tagOf, declared}
@@ -12,8 +12,6 @@ use Rattle.model.specs.Atom.{Atom, atMost}
 use Rattle.model.specs.Linear.{variableBound}
 use Rattle.model.specs.Expression.{registerCount, atomsAt}
 use Rattle.model.specs.Goals.{Path as ModelPath, atom, arrival, returning}
-use Rattle.model.specs.Package.{mostInstructions}
-use Rattle.model.specs.Derivation.{derive}
 use Rattle.model.specs.declared.Comparison.the-variants.{AtMost}
 use Rattle.model.specs.declared.Refusal.{Refusal}
 use Rattle.model.specs.declared.Region.{Region}
@@ -35,11 +33,11 @@ use Rattle.goals.specs.Walking.{pathOf, raisedTo, NodeIn, ClaimIn, Going
 use Rattle.goals.specs.Settling.{Left, GoalJudged, AtomsJudged, CreditsJudged, ArrivalJudged, ReturnJudged}
 use Rattle.goals.proofs.Reading.{same-value}
 use Rattle.goals.proofs.Judging.{judges-stopped, judges-both, reached-next}
-use Rattle.goals.proofs.Walking.{node-same, node-kept, path-same, node-raised, Above, above-put, above-more, going-kept, going-above, going-fewer}
+use Rattle.goals.proofs.Walking.{node-same, node-kept, path-same, node-raised, Above, above-put, above-more, above-kept, going-kept, going-above, going-fewer}
 use Rattle.goals.proofs.Found.{TermFound, term-found, no-term}
 use Rattle.goals.proofs.Settling.{left-below, of-path, raised-goal, raised-asks}
 
--- ---- goals on the credit
+-- ---- the goal that so many instructions are at most the credit
 module _ {ws words bytes : List ℕ} {count : ℕ} {path : Path} {p : Progress} {credit : ℕ} (y : Going ws words bytes count creditRoom path p) (n : NodeIn ws path credit) where
   pub put-asks : Formed ws (path .top) × Space ws (path .top) 1
   put-asks = (y .inside .prepared 0 .formed, record { words = y .space .words; fits = omega (arith, y .space .fits) })
@@ -61,57 +59,62 @@ module _ {ws words bytes : List ℕ} {count : ℕ} {path : Path} {p : Progress} 
           → GoalJudged ws vs bytes (regionsOf words count) (path .top) (pathOf ws path) p r (atom (atMost (constant spent) (termAt ws credit)))
       covers {vs} {r} g = subst (λ (x : Atom). GoalJudged ws vs bytes (regionsOf words count) (path .top) (pathOf ws path) p r (atom x)) (λ i. atMost (q .is i) (node-same (q .kept) n i)) (raised-goal (y .inside) (above-put (y .inside) q l) e g)
 
-    -- what is put next, and the goal on the rest
-    pub difference-asks : Formed us (path .top + 1) × (Space us (path .top + 1) 1 × ((credit < path .top + 1) × (path .top < path .top + 1)))
-    difference-asks = (
-      above-put (y .inside) q l .inside .prepared 0 .formed,
-      (record { words = omega (arith, y .space .words); fits = omega (arith, y .space .fits) }, (omega (arith, n .below), omega arith)),
-    )
+-- ---- both goals on the credit
+module _ {ws us words bytes : List ℕ} {count : ℕ} {path : Path} {p : Progress} {credit owed : ℕ} (y : Going ws words bytes count creditRoom path p) (n : NodeIn ws path credit) (o : NodeIn ws path owed)
+    (q : Put ws us (path .top) (constant (path .steps))) (l : length us ≡ length ws) where
+  pub difference-asks : Formed us (path .top + 1) × (Space us (path .top + 1) 1 × ((credit < path .top + 1) × (path .top < path .top + 1)))
+  difference-asks = (
+    above-put (y .inside) q l .inside .prepared 0 .formed,
+    (record { words = omega (arith, y .space .words); fits = omega (arith, y .space .fits) }, (omega (arith, n .below), omega arith)),
+  )
 
-    module _ {vs : List ℕ} {owed : ℕ} (o : NodeIn ws path owed) (d : Put us vs (path .top + 1) (difference (termAt us credit) (termAt us (path .top)))) (k : length vs ≡ length us) where
-      both : Above ws vs path (path .top + 1 + 1) 2
-      both = above-more (above-put (y .inside) q l) (above-put (above-put (y .inside) q l .inside) d k)
+  module _ {vs : List ℕ} {m : Path} (d : Put us vs (path .top + 1) (difference (termAt us credit) (termAt us (path .top)))) (k : length vs ≡ length us) (e : m ≡ raisedTo path (path .top + 1 + 1)) where
+    both : Above ws vs path (path .top + 1 + 1) 2
+    both = above-more (above-put (y .inside) q l) (above-put (above-put (y .inside) q l .inside) d k)
 
-      rest-node : NodeIn vs (raisedTo path (path .top + 1 + 1)) (path .top + 1)
-      unfolding variableBound
-      rest-node = record { below = omega arith; bound = rw (d .is) (omega (arith, credit-node .bound, spent-node .bound)) }
+    -- the nodes of what is spent and of the rest
+    spent-below : NodeIn vs (raisedTo path (path .top + 1 + 1)) (path .top)
+    spent-below = node-raised (path .top + 1 + 1) (omega arith) (node-kept (d .kept) (spent-node y n q l))
 
-      module _ {m : Path} (e : m ≡ raisedTo path (path .top + 1 + 1)) where
-        pub rest-asks : Going vs words bytes count derivationRoom m p × ClaimIn vs m (AtomClaim AtMost owed (path .top + 1))
-        rest-asks = raised-asks (omega arith) y both e (k ∙ l) (node-raised (path .top + 1 + 1) (omega arith) (node-kept (both .kept) o)) rest-node
+    rest-node : NodeIn vs (raisedTo path (path .top + 1 + 1)) (path .top + 1)
+    unfolding variableBound
+    rest-node = record { below = omega arith; bound = rw (d .is) (omega (arith, credit-node y n q l .bound, spent-node y n q l .bound)) }
 
-        pub rest-covers : {xs : List ℕ} {r : Judged} → GoalJudged vs xs bytes (regionsOf words count) (m .top) (pathOf vs m) p r (claimOf vs (AtomClaim AtMost owed (path .top + 1)))
-            → GoalJudged ws xs bytes (regionsOf words count) (path .top) (pathOf ws path) p r (atom (atMost (termAt ws owed) (difference (termAt ws credit) (constant spent))))
-        rest-covers {xs} {r} g =
-            let left = node-same (both .kept) o in
-            let right = d .is ∙ ap₂ difference (node-same (q .kept) n) (q .is) in
-            subst (λ (x : Atom). GoalJudged ws xs bytes (regionsOf words count) (path .top) (pathOf ws path) p r (atom x)) (ap₂ atMost left right) (raised-goal (y .inside) both e g)
+    pub first-asks : Going vs words bytes count derivationRoom m p × ClaimIn vs m (AtomClaim AtMost (path .top) credit)
+    first-asks = raised-asks (omega arith) y both e (k ∙ l) spent-below (node-raised (path .top + 1 + 1) (omega arith) (node-kept (both .kept) n))
+
+    module _ {xs : List ℕ} {r : Judged} (g : GoalJudged vs xs bytes (regionsOf words count) (m .top) (pathOf vs m) p r (claimOf vs (AtomClaim AtMost (path .top) credit))) where
+      first : GoalJudged ws xs bytes (regionsOf words count) (path .top) (pathOf ws path) p r (atom (atMost (constant (path .steps)) (termAt ws credit)))
+      first =
+          let spent = node-same (d .kept) (spent-node y n q l) ∙ q .is in
+          subst (λ (x : Atom). GoalJudged ws xs bytes (regionsOf words count) (path .top) (pathOf ws path) p r (atom x)) (ap₂ atMost spent (node-same (both .kept) n)) (raised-goal (y .inside) both e g)
+
+      pub credits-stopped : {x : Refusal} {c : ℕ} → r ≡ Refused x c → CreditsJudged ws xs bytes (regionsOf words count) (path .top) (pathOf ws path) p r (termAt ws credit) (termAt ws owed)
+      credits-stopped z = record { judges = λ policy h. judges-stopped _ z (first .judges policy h); left = first .left }
+
+      module _ {a : Progress} (z : r ≡ Next a) (k′ : length xs ≡ length vs) where
+        kept-nodes : Same 0 (place (path .top + 1 + 1)) vs xs
+        kept-nodes = subst (λ (x : Path). Same 0 (place (x .top)) vs xs) e (g .left .kept)
+
+        both-kept : Above ws xs path (path .top + 1 + 1) 2
+        both-kept = above-kept both kept-nodes k′
+
+        pub second-asks : Going xs words bytes count derivationRoom m a × ClaimIn xs m (AtomClaim AtMost owed (path .top + 1))
+        second-asks = raised-asks (omega arith) (record { inside = y .inside; regions = y .regions; space = y .space; reached = reached-next z (g .left .reached) }) both-kept e (k′ ∙ k ∙ l)
+            (node-raised (path .top + 1 + 1) (omega arith) (node-kept (both-kept .kept) o)) (node-kept kept-nodes rest-node)
+
+        pub credits-judged : {zs : List ℕ} {s : Judged} → GoalJudged xs zs bytes (regionsOf words count) (m .top) (pathOf xs m) a s (claimOf xs (AtomClaim AtMost owed (path .top + 1)))
+            → CreditsJudged ws zs bytes (regionsOf words count) (path .top) (pathOf ws path) p s (termAt ws credit) (termAt ws owed)
+        credits-judged {zs} {s} h =
+            let rest = node-same kept-nodes rest-node ∙ d .is ∙ ap₂ difference (node-same (q .kept) n) (q .is) in
+            let second : GoalJudged ws zs bytes (regionsOf words count) (path .top) (pathOf ws path) a s (atom (atMost (termAt ws owed) (difference (termAt ws credit) (constant (path .steps))))) =
+            subst (λ (x : Atom). GoalJudged ws zs bytes (regionsOf words count) (path .top) (pathOf ws path) a s (atom x)) (ap₂ atMost (node-same (both-kept .kept) o) rest) (raised-goal (y .inside) both-kept e h) in
+            record { judges = λ policy b. judges-both z (first .judges policy b) (second .judges policy b); left = second .left }
 
 -- ---- what follows a piece that is derived, on the same path
 module _ {ws us words bytes : List ℕ} {count room : ℕ} {path : Path} {p q : Progress} {r : Judged} (y : Going ws words bytes count room path p) (left : Left ws us bytes (path .top) r) (z : r ≡ Next q) (l : length us ≡ length ws) where
   pub then-going : (less : ℕ) → less ≤ room → Going us words bytes count less path q
   then-going less k = going-fewer less k (going-kept (left .kept) l (reached-next z (left .reached)) y)
-
--- both credit goals
-module _ {ws us words bytes : List ℕ} {count : ℕ} {path : Path} {p : Progress} {credit owed : ℕ} {r : Judged} (y : Going ws words bytes count creditRoom path p) (n : NodeIn ws path credit) (o : NodeIn ws path owed)
-    (g : GoalJudged ws us bytes (regionsOf words count) (path .top) (pathOf ws path) p r (atom (atMost (constant (path .steps)) (termAt ws credit)))) where
-  pub credits-stopped : {x : Refusal} {d : ℕ} → r ≡ Refused x d → CreditsJudged ws us bytes (regionsOf words count) (path .top) (pathOf ws path) p r (termAt ws credit) (termAt ws owed)
-  credits-stopped z = record { judges = λ policy k. judges-stopped _ z (g .judges policy k); left = g .left }
-
-  module _ {q : Progress} (z : r ≡ Next q) where
-    pub credits-ask : length us ≡ length ws → Going us words bytes count creditRoom path q × (NodeIn us path credit × NodeIn us path owed)
-    credits-ask l = (then-going y (g .left) z l creditRoom (omega arith), (node-kept (g .left .kept) n, node-kept (g .left .kept) o))
-
-    pub credits-judged : {vs : List ℕ} {s : Judged}
-        → GoalJudged us vs bytes (regionsOf words count) (path .top) (pathOf us path) q s (atom (atMost (termAt us owed) (difference (termAt us credit) (constant (path .steps)))))
-        → CreditsJudged ws vs bytes (regionsOf words count) (path .top) (pathOf ws path) p s (termAt ws credit) (termAt ws owed)
-    credits-judged {vs} {s} h =
-        let w : GoalJudged us vs bytes (regionsOf words count) (path .top) (pathOf ws path) q s (atom (atMost (termAt ws owed) (difference (termAt ws credit) (constant (path .steps))))) =
-        rw (← path-same (g .left .kept) (y .inside), ← node-same (g .left .kept) o, ← node-same (g .left .kept) n) h in
-        record {
-          judges = λ policy k. judges-both z (g .judges policy k) (w .judges policy k);
-          left = record { kept = same-trans (g .left .kept) (w .left .kept); reached = w .left .reached };
-        }
 
 -- ---- a return
 module _ {ws us words bytes policyBytes : List ℕ} {count at number credit : ℕ} {path : Path} {p : Progress} {r : Judged} (y : Going ws words bytes count goalRoom path p) (n : NodeIn ws path credit)
@@ -121,8 +124,8 @@ module _ {ws us words bytes policyBytes : List ℕ} {count at number credit : �
   returning-stopped z = record { judges = λ policy k atoms next e. judges-stopped _ z (w .judges policy k atoms next e); left = w .left }
 
   module _ {q : Progress} (z : r ≡ Next q) where
-    pub returning-asks : length us ≡ length ws → Going us words bytes count creditRoom path q × (NodeIn us path credit × (path .steps + 1 ≤ mostInstructions + 1))
-    returning-asks l = (then-going y (w .left) z l creditRoom (omega arith), (node-kept (w .left .kept) n, omega (arith, y .inside .run)))
+    pub returning-asks : length us ≡ length ws → Going us words bytes count creditRoom path q × NodeIn us path credit
+    returning-asks l = (then-going y (w .left) z l creditRoom (omega arith), node-kept (w .left .kept) n)
 
     pub returning-judged : {vs : List ℕ} {s : Judged} → GoalJudged us vs bytes (regionsOf words count) (path .top) (pathOf us path) q s (atom (atMost (constant (path .steps + 1)) (termAt us credit)))
         → ReturnJudged ws vs bytes (regionsOf words count) (path .top) (pathOf ws path) p s (termAt ws credit) policyBytes at number

@@ -106,6 +106,15 @@ above-more {p = p} f g = record {
   kept = same-trans (f .kept) (same-within 0 (place (p .top)) (omega arith) (omega (arith, f .grows)) (g .kept));
 }
 
+-- words that keep its nodes
+pub above-kept : {ws us vs : List ℕ} {p : Path} {t n : ℕ} → Above ws us p t n → Same 0 (place t) us vs → length vs ≡ length us → Above ws vs p t n
+above-kept {p = p} f s e = record {
+  grows = f .grows;
+  few = f .few;
+  inside = path-kept s (f .inside) e;
+  kept = same-trans (f .kept) (same-within 0 (place (p .top)) (omega arith) (omega (arith, f .grows)) s);
+}
+
 pub going-above : {ws us words bytes : List ℕ} {count room t n : ℕ} {p : Path} {a : Progress} (less : ℕ) → n + less ≤ room → Above ws us p t n → length us ≡ length ws → Going ws words bytes count room p a
     → Going us words bytes count less (raisedTo p t) a
 going-above less k f e g = record { inside = f .inside; regions = g .regions; space = record { words = omega (arith, g .space .words); fits = omega (arith, g .space .fits, f .few) }; reached = g .reached }

@@ -10,12 +10,8 @@ use model::Refusal;
 use terms::reader::AtomParse;
 use terms::reader::Parse;
 ghost use mathlib.Core.Path.{_≡_};
-ghost use Prim.Native.Nat.{ℕ, _+_, _≤_, _<_};
+ghost use Prim.Native.Nat.{_+_, _≤_, _<_};
 ghost use lib.ListN.{length};
-ghost use Rattle.model.specs.Term.{constant, difference};
-ghost use Rattle.model.specs.Atom.{atMost};
-ghost use Rattle.model.specs.Package.{mostInstructions};
-ghost use Rattle.model.specs.Goals.{atom};
 ghost use Rattle.terms.specs.Table.{termAt};
 ghost use Rattle.derivation.specs.Parts.{claimOf};
 ghost use Rattle.derivation.specs.Regions.{regionsOf};
@@ -150,66 +146,6 @@ fn atoms(
     )
 }
 
-// The goal that so many instructions are at most the credit.
-fn credit_covers(
-    bytes: &[u8],
-    regions: &[u32],
-    count: usize,
-    ws: &mut [u32],
-    path: Path,
-    spent: usize,
-    credit: usize,
-    progress: Progress,
-) -> Judged
-    requires { ⌜ Going (now ws) (now regions) (now bytes) count creditRoom path progress ⌝ }
-    requires { ⌜ NodeIn (now ws) path credit ⌝ }
-    requires { ⌜ spent ≤ mostInstructions + 1 ⌝ }
-    ensures { λ r. ⌜ GoalJudged (now (ws .entry)) (now (ws .exit)) (now (bytes .entry)) (regionsOf (now (regions .entry)) count) (path .top) (pathOf (now (ws .entry)) path) progress r (atom (atMost (constant spent) (termAt (now (ws .entry)) credit))) ⌝ }
-{
-    let top = path.top;
-    terms::put_constant(ws, top, spent as u32);
-    goal(
-        bytes,
-        regions,
-        count,
-        ws,
-        raised(path, top + 1),
-        Claim::Atom(Comparison::AtMost, top, credit),
-        progress,
-    )
-}
-
-// The goal that what is owed is at most the credit less the instructions run.
-fn rest_covers(
-    bytes: &[u8],
-    regions: &[u32],
-    count: usize,
-    ws: &mut [u32],
-    path: Path,
-    credit: usize,
-    owed: usize,
-    progress: Progress,
-) -> Judged
-    requires { ⌜ Going (now ws) (now regions) (now bytes) count creditRoom path progress ⌝ }
-    requires { ⌜ NodeIn (now ws) path credit ⌝ }
-    requires { ⌜ NodeIn (now ws) path owed ⌝ }
-    ensures { λ r. ⌜ GoalJudged (now (ws .entry)) (now (ws .exit)) (now (bytes .entry)) (regionsOf (now (regions .entry)) count) (path .top) (pathOf (now (ws .entry)) path) progress r (atom (atMost (termAt (now (ws .entry)) owed) (difference (termAt (now (ws .entry)) credit) (constant (path .steps))))) ⌝ }
-{
-    let spent = path.top;
-    let rest = spent + 1;
-    terms::put_constant(ws, spent, path.steps as u32);
-    terms::put_difference(ws, rest, credit, spent);
-    goal(
-        bytes,
-        regions,
-        count,
-        ws,
-        raised(path, rest + 1),
-        Claim::Atom(Comparison::AtMost, owed, rest),
-        progress,
-    )
-}
-
 // The two goals on the credit of a path that arrives: the instructions run at most the credit, and what is owed at most the rest of it.
 fn credits(
     bytes: &[u8],
@@ -226,20 +162,18 @@ fn credits(
     requires { ⌜ NodeIn (now ws) path owed ⌝ }
     ensures { λ r. ⌜ CreditsJudged (now (ws .entry)) (now (ws .exit)) (now (bytes .entry)) (regionsOf (now (regions .entry)) count) (path .top) (pathOf (now (ws .entry)) path) progress r (termAt (now (ws .entry)) credit) (termAt (now (ws .entry)) owed) ⌝ }
 {
-    let first = credit_covers(
-        bytes,
-        regions,
-        count,
-        ws,
-        path,
-        path.steps,
-        credit,
-        progress,
-    );
+    let spent = path.top;
+    let rest = spent + 1;
+    terms::put_constant(ws, spent, path.steps as u32);
+    terms::put_difference(ws, rest, credit, spent);
+    let inner = raised(path, rest + 1);
+    let covered = Claim::Atom(Comparison::AtMost, spent, credit);
+    let first = goal(bytes, regions, count, ws, inner, covered, progress);
     let Judged::Next(after) = first else {
         return first;
     };
-    rest_covers(bytes, regions, count, ws, path, credit, owed, after)
+    let left = Claim::Atom(Comparison::AtMost, owed, rest);
+    goal(bytes, regions, count, ws, inner, left, after)
 }
 
 // The goals of a path that has arrived at the annotation that stands at `at`: its atoms, the instructions run at most the credit, and its
@@ -324,14 +258,9 @@ pub fn returning(
     let Judged::Next(after) = first else {
         return first;
     };
-    credit_covers(
-        bytes,
-        regions,
-        count,
-        ws,
-        path,
-        path.steps + 1,
-        credit,
-        after,
-    )
+    let spent = path.top;
+    terms::put_constant(ws, spent, (path.steps + 1) as u32);
+    let inner = raised(path, spent + 1);
+    let covered = Claim::Atom(Comparison::AtMost, spent, credit);
+    goal(bytes, regions, count, ws, inner, covered, after)
 }

@@ -3,56 +3,48 @@ use model::Refusal;
 ghost use mathlib.Core.Path.{_≡_};
 ghost use Rattle.model.specs.Refusal.{numberOf, placeOf};
 
+// A refusal's number in document 01, and its place.
+struct Answer(u32, usize);
+
+// Each refusal's number and place; 0 where there is no place.
+fn answer_of(refusal: Refusal) -> Answer
+    ensures { λ r. ⌜ (r .0 ≡ numberOf refusal) × (r .1 ≡ placeOf refusal) ⌝ }
+{
+    match refusal {
+        Refusal::SmallWorkspace => Answer(1, 0),
+        Refusal::WrongStart => Answer(2, 0),
+        Refusal::PolicyLength(at) => Answer(3, at),
+        Refusal::PolicySize(at) => Answer(4, at),
+        Refusal::BadRegion(at) => Answer(5, at),
+        Refusal::PolicyExpression(at) => Answer(6, at),
+        Refusal::BadHeader(at) => Answer(7, at),
+        Refusal::BadInstruction(at) => Answer(8, at),
+        Refusal::BadTarget(at) => Answer(9, at),
+        Refusal::BadAnnotation(at) => Answer(10, at),
+        Refusal::AnnotationBytes(at) => Answer(11, at),
+        Refusal::Unannotated(at) => Answer(12, at),
+        Refusal::PastLast(at) => Answer(13, at),
+        Refusal::LargeTerm(at) => Answer(14, at),
+        Refusal::ProofExhausted(at) => Answer(15, at),
+        Refusal::UnfitRule(at) => Answer(16, at),
+        Refusal::DeepDerivation(at) => Answer(17, at),
+        Refusal::BadArgument(at) => Answer(18, at),
+        Refusal::ProofLeft(at) => Answer(19, at),
+    }
+}
+
 // A refusal's number in document 01.
 pub fn number(refusal: Refusal) -> u32
     ensures { λ r. ⌜ r ≡ numberOf refusal ⌝ }
 {
-    match refusal {
-        Refusal::SmallWorkspace => 1,
-        Refusal::WrongStart => 2,
-        Refusal::PolicyLength(_) => 3,
-        Refusal::PolicySize(_) => 4,
-        Refusal::BadRegion(_) => 5,
-        Refusal::PolicyExpression(_) => 6,
-        Refusal::BadHeader(_) => 7,
-        Refusal::BadInstruction(_) => 8,
-        Refusal::BadTarget(_) => 9,
-        Refusal::BadAnnotation(_) => 10,
-        Refusal::AnnotationBytes(_) => 11,
-        Refusal::Unannotated(_) => 12,
-        Refusal::PastLast(_) => 13,
-        Refusal::LargeTerm(_) => 14,
-        Refusal::ProofExhausted(_) => 15,
-        Refusal::UnfitRule(_) => 16,
-        Refusal::DeepDerivation(_) => 17,
-        Refusal::BadArgument(_) => 18,
-        Refusal::ProofLeft(_) => 19,
-    }
+    let answer = answer_of(refusal);
+    answer.0
 }
 
 // Where a refusal lies; 0 for those that have no place.
 pub fn place(refusal: Refusal) -> usize
     ensures { λ r. ⌜ r ≡ placeOf refusal ⌝ }
 {
-    match refusal {
-        Refusal::SmallWorkspace => 0,
-        Refusal::WrongStart => 0,
-        Refusal::PolicyLength(at) => at,
-        Refusal::PolicySize(at) => at,
-        Refusal::BadRegion(at) => at,
-        Refusal::PolicyExpression(at) => at,
-        Refusal::BadHeader(at) => at,
-        Refusal::BadInstruction(at) => at,
-        Refusal::BadTarget(at) => at,
-        Refusal::BadAnnotation(at) => at,
-        Refusal::AnnotationBytes(at) => at,
-        Refusal::Unannotated(at) => at,
-        Refusal::PastLast(at) => at,
-        Refusal::LargeTerm(at) => at,
-        Refusal::ProofExhausted(at) => at,
-        Refusal::UnfitRule(at) => at,
-        Refusal::DeepDerivation(at) => at,
-        Refusal::BadArgument(at) => at,
-        Refusal::ProofLeft(at) => at,
-    }
+    let answer = answer_of(refusal);
+    answer.1
 }

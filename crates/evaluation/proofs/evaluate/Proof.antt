@@ -1,37 +1,25 @@
-use native.Mathlib.Omega.{arith}
 use borrow.Author.Needs.{needs}
 use mathlib.Core.Path.{refl}
 use Rattle.evaluation.proofs.BlockLaws.{whole-answer}
 use Rattle.evaluation.proofs.RegionLaws.{all-fixed, start-reached}
 use Rattle.evaluation.proofs.evaluate.Statement.{statement}
 use Rattle.evaluation.proofs.evaluate.Tie as tie
-use Rattle.evaluation.proofs.evaluate.Reads as reads
-use Rattle.evaluation.proofs.evaluate.Lts as lts
-use Rattle.evaluation.proofs.answer.Reads as answer-reads
-use Rattle.evaluation.proofs.blocks.evaluate_blocks.Reads as evaluate-blocks-reads
-use Rattle.evaluation.proofs.regions.region_words.Reads as region-words-reads
 
--- src/lib.rt:97:19
 region-words-requires : tie.Need-region-words-requires
 region-words-requires c κs = c .before .before .before .before .before .before .pre .0 .checked .few-regions
 
--- src/lib.rt:105:9
 slice-aggregate-evaluate-blocks : tie.Need-slice-aggregate-evaluate-blocks
 slice-aggregate-evaluate-blocks c = search needs
 
--- src/lib.rt:102:9
 evaluate-blocks-requires : tie.Need-evaluate-blocks-requires
 evaluate-blocks-requires c κs = (all-fixed (c .before .before .before .before .before .before .before .before .before .pre .0) (c .before .before .region-words .ensures), (c .before .before .before .before .before .before .before .before .before .pre .1, start-reached (c .before .before .before .before .before .before .before .before .before .pre .0)))
 
--- src/lib.rt:112:5
 answer-requires : tie.Need-answer-requires
 answer-requires c κs = search needs
 
--- src/lib.rt:84:1
 same-length : tie.Need-same-length
 same-length c = search needs
 
--- src/lib.rt:84:1
 returns : tie.Need-returns
 returns c = whole-answer (c .before .before .before .evaluate-blocks .ensures) refl (c .answer .ensures)
 

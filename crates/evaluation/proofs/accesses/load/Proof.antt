@@ -6,58 +6,40 @@ use Rattle.evaluation.proofs.PathLaws.{room-kept}
 use Rattle.evaluation.proofs.Accessing.{address-going, readable-in, kept-address, load-goes, access-refused}
 use Rattle.evaluation.proofs.accesses.load.Statement.{statement}
 use Rattle.evaluation.proofs.accesses.load.Tie as tie
-use Rattle.evaluation.proofs.accesses.load.Reads as reads
-use Rattle.evaluation.proofs.accesses.load.Lts as lts
-use Rattle.evaluation.proofs.accesses.loaded.Reads as loaded-reads
-use Rattle.goals.proofs.goal.Reads as goal-reads
-use Rattle.goals.proofs.raised.Reads as raised-reads
-use Rattle.evaluation.proofs.paths.put_sum_with.Reads as put-sum-with-reads
 
--- src/accesses.rt:53:5
 put-sum-with-requires : tie.Need-put-sum-with-requires
 put-sum-with-requires c κs = search needs
 
--- src/accesses.rt:54:38
 add-raised : tie.Need-add-raised
 add-raised c = search needs
 
--- src/accesses.rt:54:9
 raised-requires : tie.Need-raised-requires
 raised-requires c κs = search needs
 
--- src/accesses.rt:55:81
 add-t19 : tie.Need-add-t19
 add-t19 c = search needs
 
--- src/accesses.rt:55:9
 goal-requires : tie.Need-goal-requires
 goal-requires c κs = (address-going (c .before .before .before .before .before .before .before .before .before .pre .1 .1 .0) (c .before .before .before .before .before .before .before .before .before .pre .1 .0) (c .before .before .before .before .before .before .before .before .before .pre .1 .1 .1) (c .before .before .before .before .put-sum-with .kept .0) (c .before .before .before .before .put-sum-with .ensures) (omega arith) (c .before .raised .ensures), readable-in (c .before .before .before .before .put-sum-with .ensures) (c .before .raised .ensures))
 
--- src/accesses.rt:57:22
 enum-known-judged : tie.Need-enum-known-judged
 enum-known-judged c = search needs
 
--- src/accesses.rt:57:32
 loaded-requires : tie.Need-loaded-requires
 loaded-requires c κs = (c .before .before .before .before .before .before .before .before .before .before .before .before .before .before .before .before .pre .0 .0, room-kept (kept-address (c .before .before .before .before .before .before .before .before .before .before .before .before .before .before .before .before .pre .1 .1 .0) readable (c .before .before .before .before .before .before .before .before .before .before .before .put-sum-with .ensures) (c .before .before .before .before .before .before .before .before .raised .ensures) (c .before .before .before .before .before .before .goal .ensures)) (c .before .before .before .before .before .before .goal .kept .1 .1 .1 .0 ∙ c .before .before .before .before .before .before .before .before .before .before .before .put-sum-with .kept .0) (c .before .before .before .before .before .before .before .before .before .before .before .before .before .before .before .before .pre .1 .1 .0))
 
--- src/accesses.rt:58:25
 enum-known-judged-2 : tie.Need-enum-known-judged-2
 enum-known-judged-2 c = search needs
 
--- src/accesses.rt:35:1
 same-length : tie.Need-same-length
 same-length c = search needs
 
--- src/accesses.rt:35:1
 returns : tie.Need-returns
 returns c = load-goes (c .before .before .before .before .before .before .before .before .before .before .before .before .before .before .before .before .before .before .before .pre .1 .1 .0) readable (c .before .before .before .before .before .before .before .before .before .before .before .before .before .before .put-sum-with .ensures) (c .before .before .before .before .before .before .before .before .before .before .before .raised .ensures) (c .before .before .before .before .before .before .before .before .before .goal .ensures) (c .before .before .before .before .before .judged .given .1) (c .before .before .loaded .ensures)
 
--- src/accesses.rt:35:1
 same-length-2 : tie.Need-same-length-2
 same-length-2 c = search needs
 
--- src/accesses.rt:35:1
 returns-2 : tie.Need-returns-2
 returns-2 c = access-refused (c .before .before .before .before .before .before .before .before .before .before .before .before .before .before .before .pre .1 .1 .0) readable (c .before .before .before .before .before .before .before .before .before .before .put-sum-with .ensures) (c .before .before .before .before .before .before .before .raised .ensures) (c .before .before .before .before .before .goal .ensures) _ (c .before .judged2 .given .1)
 

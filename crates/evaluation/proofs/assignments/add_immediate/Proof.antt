@@ -3,37 +3,25 @@ use borrow.Author.Needs.{needs}
 use Rattle.evaluation.proofs.Assigning.{built-asks, built-assigns}
 use Rattle.evaluation.proofs.assignments.add_immediate.Statement.{statement}
 use Rattle.evaluation.proofs.assignments.add_immediate.Tie as tie
-use Rattle.evaluation.proofs.assignments.add_immediate.Reads as reads
-use Rattle.evaluation.proofs.assignments.add_immediate.Lts as lts
-use Rattle.evaluation.proofs.assignments.assign.Reads as assign-reads
-use Rattle.goals.proofs.raised.Reads as raised-reads
-use Rattle.evaluation.proofs.paths.put_sum_with.Reads as put-sum-with-reads
 
--- src/assignments.rt:66:5
 put-sum-with-requires : tie.Need-put-sum-with-requires
 put-sum-with-requires c κs = search needs
 
--- src/assignments.rt:67:36
 add-raised : tie.Need-add-raised
 add-raised c = search needs
 
--- src/assignments.rt:67:16
 raised-requires : tie.Need-raised-requires
 raised-requires c κs = search needs
 
--- src/assignments.rt:67:49
 add-assign : tie.Need-add-assign
 add-assign c = search needs
 
--- src/assignments.rt:67:5
 assign-requires : tie.Need-assign-requires
 assign-requires c κs = rw (c .raised .ensures) (built-asks 2 (c .before .before .before .before .before .before .before .pre .1) (c .before .before .before .before .put-sum-with .kept .0) (c .before .before .before .before .before .before .before .pre .0 .0) (omega arith) (c .before .before .before .before .put-sum-with .ensures))
 
--- src/assignments.rt:60:1
 same-length : tie.Need-same-length
 same-length c = search needs
 
--- src/assignments.rt:60:1
 returns : tie.Need-returns
 returns c = built-assigns _ (c .before .before .before .before .before .before .before .before .pre .1) (c .before .before .before .before .before .put-sum-with .kept .0) (c .before .before .before .before .before .before .before .before .pre .0 .0) (omega arith) (c .before .before .before .before .before .put-sum-with .ensures) (c .before .raised .ensures) (c .assign .ensures)
 

@@ -1,35 +1,23 @@
-use native.Mathlib.Omega.{arith}
 use borrow.Author.Needs.{needs}
 use Rattle.evaluation.proofs.Assigning.{assigned-on, assigned-not}
 use Rattle.evaluation.proofs.assignments.assign.Statement.{statement}
 use Rattle.evaluation.proofs.assignments.assign.Tie as tie
-use Rattle.evaluation.proofs.assignments.assign.Reads as reads
-use Rattle.evaluation.proofs.assignments.assign.Lts as lts
-use Rattle.evaluation.proofs.paths.stepped.Reads as stepped-reads
-use Rattle.evaluation.proofs.paths.written.Reads as written-reads
-use Rattle.terms.proofs.small.Reads as small-reads
 
--- src/assignments.rt:25:8
 small-requires : tie.Need-small-requires
 small-requires c κs = search needs
 
--- src/assignments.rt:27:34
 written-requires : tie.Need-written-requires
 written-requires c κs = search needs
 
--- src/assignments.rt:27:65
 add-stepped : tie.Need-add-stepped
 add-stepped c = search needs
 
--- src/assignments.rt:27:19
 stepped-requires : tie.Need-stepped-requires
 stepped-requires c κs = rw (c .before .written .ensures) (c .before .before .before .before .before .pre .1 .0 .0)
 
--- src/assignments.rt:26:9
 returns : tie.Need-returns
 returns c = assigned-on _ _ _ _ (c .before .before .before .before .small .ensures) (c .before .before .before .if1 .taken) (c .before .before .written .ensures) (c .stepped .ensures)
 
--- src/assignments.rt:19:1
 returns-2 : tie.Need-returns-2
 returns-2 c = assigned-not _ _ _ _ (c .before .small .ensures) (c .if1 .left)
 

@@ -4,53 +4,37 @@ use mathlib.Core.Path.{_∙_}
 use Rattle.evaluation.proofs.BlockLaws.{start-asks, index-below, note-walk-asks, note-walks}
 use Rattle.evaluation.proofs.blocks.annotation.Statement.{statement}
 use Rattle.evaluation.proofs.blocks.annotation.Tie as tie
-use Rattle.evaluation.proofs.blocks.annotation.Reads as reads
-use Rattle.evaluation.proofs.blocks.annotation.Lts as lts
-use Rattle.goals.proofs.blocks.annotation_block.Reads as annotation-block-reads
-use Rattle.evaluation.proofs.walks.walk.Reads as walk-reads
-use Rattle.fields.proofs.wide.Reads as wide-reads
 
--- src/blocks.rt:84:30
 mul-wide : tie.Need-mul-wide
 mul-wide c = omega (arith, c .before .before .before .before .before .before .before .pre .1 .1 .1, c .before .before .before .before .before .before .before .pre .0 .settled .fits .noted)
 
--- src/blocks.rt:84:30
 shared-slice-read-wide : tie.Need-shared-slice-read-wide
 shared-slice-read-wide c = omega (arith, c .before .before .before .before .before .before .before .before .pre .1 .1 .1, c .before .before .before .before .before .before .before .before .pre .0 .settled .fits .noted, c .before .before .before .before .before .before .before .before .pre .0 .settled .tabled .indexes-long)
 
--- src/blocks.rt:84:9
 wide-requires : tie.Need-wide-requires
 wide-requires c κs = search needs
 
--- src/blocks.rt:85:27
 mul-wide-2 : tie.Need-mul-wide-2
 mul-wide-2 c = omega (arith, c .before .before .before .before .before .before .before .before .before .pre .1 .1 .1, c .before .before .before .before .before .before .before .before .before .pre .0 .settled .fits .noted)
 
--- src/blocks.rt:85:27
 shared-slice-read-wide-2 : tie.Need-shared-slice-read-wide-2
 shared-slice-read-wide-2 c = omega (arith, c .before .before .before .before .before .before .before .before .before .before .pre .1 .1 .1, c .before .before .before .before .before .before .before .before .before .before .pre .0 .settled .fits .noted, c .before .before .before .before .before .before .before .before .before .before .pre .0 .settled .tabled .places-long)
 
--- src/blocks.rt:85:9
 wide-requires-2 : tie.Need-wide-requires-2
 wide-requires-2 c κs = search needs
 
--- src/blocks.rt:86:9
 annotation-block-requires : tie.Need-annotation-block-requires
 annotation-block-requires c κs = (c .before .before .before .before .before .before .before .before .before .before .before .before .pre .1 .0, start-asks (c .before .before .before .before .before .before .before .before .before .before .before .before .pre .0) (c .before .before .before .before .before .before .before .before .before .before .before .before .pre .1 .1 .1) (c .before .wide2 .ensures))
 
--- src/blocks.rt:97:9
 sub-walk : tie.Need-sub-walk
 sub-walk c = omega (arith, index-below (c .before .before .before .before .before .before .before .before .before .before .before .before .before .before .before .before .before .before .pre .0) (c .before .before .before .before .before .before .before .before .before .before .before .before .before .before .before .before .before .before .pre .1 .1 .1) (c .before .before .before .before .before .before .before .before .before .wide .ensures))
 
--- src/blocks.rt:88:5
 walk-requires : tie.Need-walk-requires
 walk-requires c κs = ((c .before .before .before .before .before .before .before .before .before .before .before .before .before .before .before .before .before .before .pre .0), note-walk-asks (c .before .before .before .before .before .before .before .before .before .before .before .before .before .before .before .before .before .before .pre .0) (c .before .before .before .before .before .before .before .before .before .before .before .before .before .before .before .before .before .before .pre .1 .1 .1) (c .before .before .before .before .before .before .before .before .before .wide .ensures) (c .before .before .before .before .before .before .before .wide2 .ensures) (c .before .before .before .before .before .annotation-block .ensures) (omega (arith, c .before .before .before .before .before .before .before .before .before .before .before .before .before .before .before .before .before .before .pre .1 .0 .words, (c .before .before .before .before .before .annotation-block .kept .1 .1 .1 .1 .0))) (c .before .before .before .before .before .before .before .before .before .before .before .before .before .before .before .before .before .before .pre .1 .1 .0))
 
--- src/blocks.rt:66:1
 same-length : tie.Need-same-length
 same-length c = (c .before .before .walk .kept .1 .1 .1 .1 .1 .1 .0) ∙ (c .before .before .before .before .before .before .before .before .annotation-block .kept .1 .1 .1 .1 .0)
 
--- src/blocks.rt:66:1
 returns : tie.Need-returns
 returns c = note-walks (c .before .before .before .before .before .before .before .before .before .before .before .before .before .before .before .before .before .before .before .before .before .pre .0) (c .before .before .before .before .before .before .before .before .before .before .before .before .before .before .before .before .before .before .before .before .before .pre .1 .1 .1) (c .before .before .before .before .before .before .before .before .before .before .before .before .wide .ensures) (c .before .before .before .before .before .before .before .before .before .before .wide2 .ensures) (c .before .before .before .before .before .before .before .before .annotation-block .ensures) (c .before .before .walk .ensures)
 

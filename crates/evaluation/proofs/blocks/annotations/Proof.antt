@@ -3,12 +3,8 @@ use mathlib.Core.Path.{_≡_, refl, _∙_}
 use Prim.Native.Nat.{_-_}
 use lib.ListN.{length}
 use Rattle.evaluation.proofs.BlockLaws.{Passed, none-passed, block-stops, block-passes, blocks-end}
-use native.Mathlib.Omega.{arith}
 use Rattle.evaluation.proofs.blocks.annotations.Statement.{statement}
 use Rattle.evaluation.proofs.blocks.annotations.Tie as tie
-use Rattle.evaluation.proofs.blocks.annotations.Reads as reads
-use Rattle.evaluation.proofs.blocks.annotations.Lts as lts
-use Rattle.evaluation.proofs.blocks.annotation.Reads as annotation-reads
 
 abbrev Inv-loop : tie.InvT-loop
 Inv-loop bytes conditions regions indexes places setting ws₀ header progress₀ k₀ ws progress k = (length ws ≡ length ws₀) × Passed ws bytes conditions places setting progress₀ progress k
@@ -16,47 +12,36 @@ Inv-loop bytes conditions regions indexes places setting ws₀ header progress�
 abbrev μ-loop : tie.MeasureT-loop
 μ-loop bytes conditions regions indexes places setting ws₀ header progress₀ k₀ ws progress k = header .annotations - k
 
--- src/blocks.rt:122:5
 loop-holds : tie.Need-loop-holds Inv-loop μ-loop
 loop-holds c = (refl, none-passed (c .before .before .before .before .before .before .before .pre .0) (c .before .before .before .before .before .before .before .pre .1 .0) (c .before .before .before .before .before .before .before .pre .1 .1))
 
--- src/blocks.rt:123:13
 annotation-requires : tie.Need-annotation-requires Inv-loop μ-loop
 annotation-requires c κs = ((c .before .before .before .before .before .before .before .before .before .before .before .pre .0), (c .before .before .before .loop .inv .1 .workspace, (c .before .before .before .loop .inv .1 .reached, (c .before .if1 .taken))))
 
--- src/blocks.rt:124:26
 enum-known-judged : tie.Need-enum-known-judged Inv-loop μ-loop
 enum-known-judged c = search needs
 
--- src/blocks.rt:125:13
 enum-told : tie.Need-enum-told Inv-loop μ-loop
 enum-told c = search needs
 
--- src/blocks.rt:125:13
 same-length : tie.Need-same-length Inv-loop μ-loop
 same-length c = (c .before .before .before .before .annotation .kept .1 .1 .1 .1 .1 .1 .0) ∙ c .before .before .before .before .before .before .before .before .loop .inv .0
 
--- src/blocks.rt:125:13
 returns : tie.Need-returns Inv-loop μ-loop
 returns c = block-stops (c .before .before .before .before .before .before .before .before .before .before .before .before .before .before .before .before .pre .0) (c .before .before .before .before .before .before .before .before .loop .inv .1) (c .before .before .before .before .before .before .if1 .taken) (c .before .before .before .before .annotation .ensures) (c .enum-told .given .1)
 
--- src/blocks.rt:128:9
 add-k : tie.Need-add-k Inv-loop μ-loop
 add-k c = search needs
 
--- src/blocks.rt:122:5
 loop-less : tie.Need-loop-less Inv-loop μ-loop
 loop-less c = search needs
 
--- src/blocks.rt:122:5
 loop-again : tie.Need-loop-again Inv-loop μ-loop
 loop-again c = ((c .before .before .before .before .before .annotation .kept .1 .1 .1 .1 .1 .1 .0) ∙ c .before .before .before .before .before .before .before .before .before .loop .inv .0, block-passes (c .before .before .before .before .before .before .before .before .before .before .before .before .before .before .before .before .before .pre .0) (c .before .before .before .before .before .before .before .before .before .loop .inv .1) (c .before .before .before .before .before .before .before .if1 .taken) (c .before .before .before .before .before .annotation .ensures) (c .before .judged .given .1) (c .before .before .before .before .before .annotation .kept .1 .1 .1 .1 .1 .1 .0))
 
--- src/blocks.rt:104:1
 same-length-2 : tie.Need-same-length-2 Inv-loop μ-loop
 same-length-2 c = c .before .before .loop .inv .0
 
--- src/blocks.rt:104:1
 returns-2 : tie.Need-returns-2 Inv-loop μ-loop
 returns-2 c = blocks-end (c .before .before .before .before .before .before .before .before .before .before .pre .0) (c .before .before .loop .inv .1) (c .if1 .left)
 

@@ -4,45 +4,31 @@ use mathlib.Core.Path.{_∙_}
 use Rattle.evaluation.proofs.BlockLaws.{entry-asks, entry-walk-asks, entry-arrives, entry-walks}
 use Rattle.evaluation.proofs.blocks.entry.Statement.{statement}
 use Rattle.evaluation.proofs.blocks.entry.Tie as tie
-use Rattle.evaluation.proofs.blocks.entry.Reads as reads
-use Rattle.evaluation.proofs.blocks.entry.Lts as lts
-use Rattle.goals.proofs.blocks.entry_block.Reads as entry-block-reads
-use Rattle.evaluation.proofs.jumps.arrive.Reads as arrive-reads
-use Rattle.evaluation.proofs.walks.walk.Reads as walk-reads
 
--- src/blocks.rt:37:9
 entry-block-requires : tie.Need-entry-block-requires
 entry-block-requires c κs = (c .before .before .before .before .before .before .before .before .before .pre .1 .0, c .before .before .before .before .before .before .before .before .before .pre .0 .settled .checked .few-precondition)
 
--- src/blocks.rt:46:9
 arrive-requires : tie.Need-arrive-requires
 arrive-requires c κs = entry-asks (c .before .before .before .before .before .before .before .before .before .before .before .before .before .before .pre .0) (omega (arith, c .before .before .before .before .before .before .before .before .before .before .before .before .before .before .pre .1 .0 .words, (c .before .before .before .before .entry-block .kept .1 .1 .1 .1 .0))) (c .before .before .before .before .entry-block .ensures) (c .before .before .before .before .before .before .before .before .before .before .before .before .before .before .pre .1 .1)
 
--- src/blocks.rt:48:21
 enum-known-arrived : tie.Need-enum-known-arrived
 enum-known-arrived c = search needs
 
--- src/blocks.rt:56:13
 enum-told : tie.Need-enum-told
 enum-told c = search needs
 
--- src/blocks.rt:49:29
 walk-requires : tie.Need-walk-requires
 walk-requires c κs = ((c .before .before .before .before .before .before .before .before .before .before .before .before .before .before .before .before .before .before .before .before .pre .0), entry-walk-asks (c .before .before .before .before .before .before .before .before .before .before .before .before .before .before .before .before .before .before .before .before .pre .0) (omega (arith, c .before .before .before .before .before .before .before .before .before .before .before .before .before .before .before .before .before .before .before .before .pre .1 .0 .words, (c .before .before .before .before .before .before .before .before .before .before .entry-block .kept .1 .1 .1 .1 .0))) (c .before .before .before .before .before .before .before .before .before .before .entry-block .ensures) (c .before .before .before .before .before .arrive .ensures) (c .before .before .before .before .before .arrive .kept .1 .1 .1 .1 .1 .0) (c .before .before .before .before .before .before .before .before .before .before .before .before .before .before .before .before .before .before .before .before .pre .1 .1))
 
--- src/blocks.rt:20:1
 same-length : tie.Need-same-length
 same-length c = (c .before .before .before .before .before .arrive .kept .1 .1 .1 .1 .1 .0) ∙ (c .before .before .before .before .before .before .before .before .before .before .entry-block .kept .1 .1 .1 .1 .0)
 
--- src/blocks.rt:20:1
 returns : tie.Need-returns
 returns c = entry-arrives (c .before .before .before .before .before .before .before .before .before .before .before .before .before .before .before .before .before .before .before .before .pre .0) (omega (arith, c .before .before .before .before .before .before .before .before .before .before .before .before .before .before .before .before .before .before .before .before .pre .1 .0 .words, (c .before .before .before .before .before .before .before .before .before .before .entry-block .kept .1 .1 .1 .1 .0))) (c .before .before .before .before .before .before .before .before .before .before .entry-block .ensures) (c .before .before .before .before .before .arrive .ensures) (c .before .arrived .given .1)
 
--- src/blocks.rt:20:1
 same-length-2 : tie.Need-same-length-2
 same-length-2 c = (c .before .before .walk .kept .1 .1 .1 .1 .1 .1 .0) ∙ (c .before .before .before .before .before .before .before .before .arrive .kept .1 .1 .1 .1 .1 .0) ∙ (c .before .before .before .before .before .before .before .before .before .before .before .before .before .entry-block .kept .1 .1 .1 .1 .0)
 
--- src/blocks.rt:20:1
 returns-2 : tie.Need-returns-2
 returns-2 c = entry-walks (c .before .before .before .before .before .before .before .before .before .before .before .before .before .before .before .before .before .before .before .before .before .before .before .pre .0) (omega (arith, c .before .before .before .before .before .before .before .before .before .before .before .before .before .before .before .before .before .before .before .before .before .before .before .pre .1 .0 .words, (c .before .before .before .before .before .before .before .before .before .before .before .before .before .entry-block .kept .1 .1 .1 .1 .0))) (c .before .before .before .before .before .before .before .before .before .before .before .before .before .entry-block .ensures) (c .before .before .before .before .before .before .before .before .arrive .ensures) (c .before .before .before .before .enum-told .given .1) (c .before .before .walk .ensures)
 

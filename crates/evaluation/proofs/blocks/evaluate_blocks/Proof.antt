@@ -1,42 +1,29 @@
-use native.Mathlib.Omega.{arith}
 use borrow.Author.Needs.{needs}
 use Rattle.evaluation.proofs.BlockLaws.{entry-stops, entry-next, entry-then}
 use Rattle.evaluation.proofs.blocks.evaluate_blocks.Statement.{statement}
 use Rattle.evaluation.proofs.blocks.evaluate_blocks.Tie as tie
-use Rattle.evaluation.proofs.blocks.evaluate_blocks.Reads as reads
-use Rattle.evaluation.proofs.blocks.evaluate_blocks.Lts as lts
-use Rattle.evaluation.proofs.blocks.annotations.Reads as annotations-reads
-use Rattle.evaluation.proofs.blocks.entry.Reads as entry-reads
 
--- src/blocks.rt:149:9
 entry-requires : tie.Need-entry-requires
 entry-requires c κs = search needs
 
--- src/blocks.rt:150:22
 enum-known-first : tie.Need-enum-known-first
 enum-known-first c = search needs
 
--- src/blocks.rt:151:9
 enum-told : tie.Need-enum-told
 enum-told c = search needs
 
--- src/blocks.rt:151:9
 same-length : tie.Need-same-length
 same-length c = search needs
 
--- src/blocks.rt:151:9
 returns : tie.Need-returns
 returns c = entry-stops (c .before .before .before .before .entry .ensures) (c .enum-told .given .1)
 
--- src/blocks.rt:153:5
 annotations-requires : tie.Need-annotations-requires
 annotations-requires c κs = (c .before .before .before .before .before .before .before .before .before .before .before .before .before .before .pre .0, entry-next (c .before .before .before .before .before .before .entry .ensures) (c .before .before .first .given .1) (c .before .before .before .before .before .before .before .before .before .before .before .before .before .before .pre .1 .0) (c .before .before .before .before .before .before .entry .kept .1 .1 .1 .1 .1 .1 .0))
 
--- src/blocks.rt:134:1
 same-length-2 : tie.Need-same-length-2
 same-length-2 c = search needs
 
--- src/blocks.rt:134:1
 returns-2 : tie.Need-returns-2
 returns-2 c = entry-then (c .before .before .before .before .before .before .before .before .before .entry .ensures) (c .before .before .before .before .before .first .given .1) (c .before .before .annotations .ensures)
 

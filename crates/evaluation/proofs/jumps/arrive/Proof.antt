@@ -4,53 +4,37 @@ use Rattle.evaluation.proofs.Jumping.{place-inside, arrival-asks, arriv
 use mathlib.Core.Path.{refl}
 use Rattle.evaluation.proofs.jumps.arrive.Statement.{statement}
 use Rattle.evaluation.proofs.jumps.arrive.Tie as tie
-use Rattle.evaluation.proofs.jumps.arrive.Reads as reads
-use Rattle.evaluation.proofs.jumps.arrive.Lts as lts
-use Rattle.annotations.proofs.search.position.Reads as position-reads
-use Rattle.goals.proofs.arrival.Reads as arrival-reads
-use Rattle.fields.proofs.wide.Reads as wide-reads
 
--- src/jumps.rt:48:63
 cast-position : tie.Need-cast-position
 cast-position c = search needs
 
--- src/jumps.rt:48:9
 position-requires : tie.Need-position-requires
 position-requires c κs = search needs
 
--- src/jumps.rt:49:19
 enum-known-found : tie.Need-enum-known-found
 enum-known-found c = search needs
 
--- src/jumps.rt:50:9
 enum-told : tie.Need-enum-told
 enum-told c = search needs
 
--- src/jumps.rt:50:9
 returns : tie.Need-returns
 returns c = arrived-nowhere (c .before .before .before .before .before .before .before .before .before .before .pre .0) _ (c .before .before .position .ensures) refl (c .enum-told .given .1)
 
--- src/jumps.rt:52:27
 mul-wide : tie.Need-mul-wide
 mul-wide c = omega (arith, place-inside (c .before .before .before .before .before .before .before .before .before .before .before .pre .0) _ (c .before .before .before .position .ensures) (c .before .found .given .1), c .before .before .before .before .before .before .before .before .before .before .before .pre .0 .tabled .places-long)
 
--- src/jumps.rt:52:27
 shared-slice-read-wide : tie.Need-shared-slice-read-wide
 shared-slice-read-wide c = place-inside (c .before .before .before .before .before .before .before .before .before .before .before .before .pre .0) _ (c .before .before .before .before .position .ensures) (c .before .before .found .given .1)
 
--- src/jumps.rt:52:9
 wide-requires : tie.Need-wide-requires
 wide-requires c κs = search needs
 
--- src/jumps.rt:54:9
 arrival-requires : tie.Need-arrival-requires
 arrival-requires c κs = (arrival-asks (c .before .before .before .before .before .before .before .before .before .before .before .before .before .before .before .pre .0) _ (c .before .before .before .before .before .before .before .position .ensures) (c .before .before .before .before .before .found .given .1) (c .before .before .wide .ensures), (c .before .before .before .before .before .before .before .before .before .before .before .before .before .before .before .pre .1 .0, c .before .before .before .before .before .before .before .before .before .before .before .before .before .before .before .pre .1 .1 .0))
 
--- src/jumps.rt:30:1
 same-length : tie.Need-same-length
 same-length c = search needs
 
--- src/jumps.rt:30:1
 returns-2 : tie.Need-returns-2
 returns-2 c = arrived-at (c .before .before .before .before .before .before .before .before .before .before .before .before .before .before .before .before .before .before .pre .0) _ (c .before .before .before .before .before .before .before .before .before .before .position .ensures) refl (c .before .before .before .before .before .before .before .before .found .given .1) (c .before .before .before .before .before .wide .ensures) (c .before .before .arrival .ensures)
 

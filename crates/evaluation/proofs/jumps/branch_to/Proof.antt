@@ -1,99 +1,84 @@
 use native.Mathlib.Omega.{arith}
 use borrow.Author.Needs.{needs}
-use mathlib.Core.Path.{_∙_}
-use Rattle.evaluation.proofs.PathLaws.{room-kept}
-use Rattle.evaluation.proofs.Jumping.{assume-asks, edge-asks, taken-kept, branch-nowhere, branch-stopped, branch-on}
 use Rattle.evaluation.proofs.jumps.branch_to.Statement.{statement}
 use Rattle.evaluation.proofs.jumps.branch_to.Tie as tie
-use Rattle.evaluation.proofs.jumps.branch_to.Reads as reads
-use Rattle.evaluation.proofs.jumps.branch_to.Lts as lts
-use Rattle.goals.proofs.blocks.assuming.Reads as assuming-reads
-use Rattle.evaluation.proofs.jumps.arrive.Reads as arrive-reads
-use Rattle.evaluation.proofs.jumps.ended.Reads as ended-reads
-use Rattle.evaluation.proofs.jumps.unannotated.Reads as unannotated-reads
-use Rattle.evaluation.proofs.paths.stepped.Reads as stepped-reads
-use Rattle.fields.proofs.wide.Reads as wide-reads
+use mathlib.Core.Path.{_∙_}
+use Rattle.evaluation.proofs.PathLaws.{room-kept}
+use Rattle.evaluation.proofs.Assigning.{pair-below}
+use Rattle.evaluation.proofs.Jumping.{opposite-below, assume-asks, edge-asks, taken-kept, branch-nowhere, branch-stopped, branch-on}
 
--- src/jumps.rt:148:40
+node-requires : tie.Need-node-requires
+node-requires c κs = search needs
+
+node-requires-2 : tie.Need-node-requires-2
+node-requires-2 c κs = search needs
+
 wide-requires : tie.Need-wide-requires
 wide-requires c κs = search needs
 
--- src/jumps.rt:148:9
 stepped-requires : tie.Need-stepped-requires
 stepped-requires c κs = search needs
 
--- src/jumps.rt:149:9
 assuming-requires : tie.Need-assuming-requires
-assuming-requires c κs = assume-asks (c .before .before .before .before .before .before .before .before .pre .1 .0) (c .before .stepped .ensures) (c .before .before .before .before .before .before .before .before .pre .1 .1 .1 .1 .1 .0)
+assuming-requires c κs = assume-asks (c .before .before .before .before .before .before .before .before .before .before .pre .1 .0) (c .before .stepped .ensures) (pair-below (c .before .before .before .before .before .before .before .before .before .before .pre .1 .1 .1 .1 .1 .0) (c .before .before .before .before .before .before .before .before .before .before .pre .1 .1 .1 .1 .1 .1) (c .before .before .before .before .node .ensures) (c .before .before .before .node2 .ensures) (c .before .before .before .before .before .before .before .before .before .before .pre .1 .0 .path-in))
 
--- src/jumps.rt:150:9
 arrive-requires : tie.Need-arrive-requires
-arrive-requires c κs = edge-asks (c .before .before .before .before .before .before .before .before .before .before .before .before .pre .1 .0) (rw (c .before .before .before .before .before .before .wide .ensures) at (c .before .before .before .before .before .stepped .ensures)) (c .before .before .before .assuming .ensures) (c .before .before .before .before .before .before .before .before .before .before .before .before .pre .0) (c .before .before .before .before .before .before .before .before .before .before .before .before .pre .1 .1 .0) (c .before .before .before .before .before .before .before .before .before .before .before .before .pre .1 .1 .1 .0) (c .before .before .before .before .before .before .before .before .before .before .before .before .pre .1 .1 .1 .1 .0) (c .before .before .before .assuming .kept .0)
+arrive-requires c κs = edge-asks (c .before .before .before .before .before .before .before .before .before .before .before .before .before .before .pre .1 .0) (rw (c .before .before .before .before .before .before .wide .ensures) at (c .before .before .before .before .before .stepped .ensures)) (c .before .before .before .assuming .ensures) (c .before .before .before .before .before .before .before .before .before .before .before .before .before .before .pre .0) (c .before .before .before .before .before .before .before .before .before .before .before .before .before .before .pre .1 .1 .0) (c .before .before .before .before .before .before .before .before .before .before .before .before .before .before .pre .1 .1 .1 .0) (c .before .before .before .before .before .before .before .before .before .before .before .before .before .before .pre .1 .1 .1 .1 .0) (c .before .before .before .assuming .kept .0)
 
--- src/jumps.rt:151:21
 enum-known-arrived : tie.Need-enum-known-arrived
 enum-known-arrived c = search needs
 
--- src/jumps.rt:152:9
 enum-told : tie.Need-enum-told
 enum-told c = search needs
 
--- src/jumps.rt:152:9
 unannotated-requires : tie.Need-unannotated-requires
 unannotated-requires c κs = search needs
 
--- src/jumps.rt:152:9
 same-length : tie.Need-same-length
 same-length c = search needs
 
--- src/jumps.rt:152:9
 returns : tie.Need-returns
-returns c = branch-nowhere (c .before .before .before .before .before .before .before .before .before .before .before .before .before .before .before .before .before .before .pre .1 .0) (c .before .before .before .before .before .before .before .before .before .before .before .before .before .before .before .before .before .before .pre .1 .1 .0) (rw (c .before .before .before .before .before .before .before .before .before .before .before .before .wide .ensures) at (c .before .before .before .before .before .before .before .before .before .before .before .stepped .ensures)) (c .before .before .before .before .before .before .before .before .before .assuming .ensures) (c .before .before .before .before .before .arrive .ensures) _ (c .before .enum-told .given .1) (c .unannotated .ensures)
+returns c = rw (← c .before .before .before .before .before .before .before .before .before .before .before .before .before .before .node .ensures, ← c .before .before .before .before .before .before .before .before .before .before .before .before .before .node2 .ensures) (branch-nowhere (c .before .before .before .before .before .before .before .before .before .before .before .before .before .before .before .before .before .before .before .before .pre .1 .0) (c .before .before .before .before .before .before .before .before .before .before .before .before .before .before .before .before .before .before .before .before .pre .1 .1 .0) (rw (c .before .before .before .before .before .before .before .before .before .before .before .before .wide .ensures) at (c .before .before .before .before .before .before .before .before .before .before .before .stepped .ensures)) (c .before .before .before .before .before .before .before .before .before .assuming .ensures) (c .before .before .before .before .before .arrive .ensures) _ (c .before .enum-told .given .1) (c .unannotated .ensures))
 
--- src/jumps.rt:154:22
 enum-known-judged : tie.Need-enum-known-judged
 enum-known-judged c = search needs
 
--- src/jumps.rt:155:9
 enum-told-2 : tie.Need-enum-told-2
 enum-told-2 c = search needs
 
--- src/jumps.rt:155:9
 ended-requires : tie.Need-ended-requires
 ended-requires c κs = search needs
 
--- src/jumps.rt:155:9
 same-length-2 : tie.Need-same-length-2
 same-length-2 c = search needs
 
--- src/jumps.rt:155:9
 returns-2 : tie.Need-returns-2
-returns-2 c = branch-stopped (c .before .before .before .before .before .before .before .before .before .before .before .before .before .before .before .before .before .before .before .before .before .pre .1 .0) (c .before .before .before .before .before .before .before .before .before .before .before .before .before .before .before .before .before .before .before .before .before .pre .1 .1 .0) (rw (c .before .before .before .before .before .before .before .before .before .before .before .before .before .before .before .wide .ensures) at (c .before .before .before .before .before .before .before .before .before .before .before .before .before .before .stepped .ensures)) (c .before .before .before .before .before .before .before .before .before .before .before .before .assuming .ensures) (c .before .before .before .before .before .before .before .before .arrive .ensures) (c .before .before .before .before .arrived .given .1) _ (c .before .enum-told2 .given .1) (c .ended .ensures)
+returns-2 c = rw (← c .before .before .before .before .before .before .before .before .before .before .before .before .before .before .before .before .before .node .ensures, ← c .before .before .before .before .before .before .before .before .before .before .before .before .before .before .before .before .node2 .ensures) (branch-stopped (c .before .before .before .before .before .before .before .before .before .before .before .before .before .before .before .before .before .before .before .before .before .before .before .pre .1 .0) (c .before .before .before .before .before .before .before .before .before .before .before .before .before .before .before .before .before .before .before .before .before .before .before .pre .1 .1 .0) (rw (c .before .before .before .before .before .before .before .before .before .before .before .before .before .before .before .wide .ensures) at (c .before .before .before .before .before .before .before .before .before .before .before .before .before .before .stepped .ensures)) (c .before .before .before .before .before .before .before .before .before .before .before .before .assuming .ensures) (c .before .before .before .before .before .before .before .before .arrive .ensures) (c .before .before .before .before .arrived .given .1) _ (c .before .enum-told2 .given .1) (c .ended .ensures))
 
--- src/jumps.rt:158:37
 add-stepped : tie.Need-add-stepped
-add-stepped c = omega (arith, c .before .before .before .before .before .before .before .before .before .before .before .before .before .before .before .before .before .before .before .before .before .before .pre .1 .0 .within)
+add-stepped c = omega (arith, c .before .before .before .before .before .before .before .before .before .before .before .before .before .before .before .before .before .before .before .before .before .before .before .before .pre .1 .0 .within)
 
--- src/jumps.rt:158:9
 stepped-requires-2 : tie.Need-stepped-requires-2
-stepped-requires-2 c κs = omega (arith, c .before .before .before .before .before .before .before .before .before .before .before .before .before .before .before .before .before .before .before .before .before .before .pre .1 .0 .run)
+stepped-requires-2 c κs = omega (arith, c .before .before .before .before .before .before .before .before .before .before .before .before .before .before .before .before .before .before .before .before .before .before .before .before .pre .1 .0 .run)
 
--- src/jumps.rt:159:9
+opposite-requires : tie.Need-opposite-requires
+opposite-requires c κs = search needs
+
 assuming-requires-2 : tie.Need-assuming-requires-2
-assuming-requires-2 c κs = assume-asks (room-kept (taken-kept (c .before .before .before .before .before .before .before .before .before .before .before .before .before .before .before .before .before .before .before .before .before .before .before .before .pre .1 .0) (c .before .before .before .before .before .before .before .before .before .before .before .before .before .before .before .before .before .before .before .before .before .before .before .before .pre .1 .1 .0) (rw (c .before .before .before .before .before .before .before .before .before .before .before .before .before .before .before .before .before .before .wide .ensures) at (c .before .before .before .before .before .before .before .before .before .before .before .before .before .before .before .before .before .stepped .ensures)) (c .before .before .before .before .before .before .before .before .before .before .before .before .before .before .before .assuming .ensures) (c .before .before .before .before .before .before .before .before .before .before .before .arrive .ensures)) (c .before .before .before .before .before .before .before .before .before .before .before .arrive .kept .1 .1 .1 .1 .1 .0 ∙ c .before .before .before .before .before .before .before .before .before .before .before .before .before .before .before .assuming .kept .0) (c .before .before .before .before .before .before .before .before .before .before .before .before .before .before .before .before .before .before .before .before .before .before .before .before .pre .1 .0)) (c .before .stepped2 .ensures) (c .before .before .before .before .before .before .before .before .before .before .before .before .before .before .before .before .before .before .before .before .before .before .before .before .pre .1 .1 .1 .1 .1 .1)
+assuming-requires-2 c κs = assume-asks (room-kept (taken-kept (c .before .before .before .before .before .before .before .before .before .before .before .before .before .before .before .before .before .before .before .before .before .before .before .before .before .before .before .pre .1 .0) (c .before .before .before .before .before .before .before .before .before .before .before .before .before .before .before .before .before .before .before .before .before .before .before .before .before .before .before .pre .1 .1 .0) (rw (c .before .before .before .before .before .before .before .before .before .before .before .before .before .before .before .before .before .before .before .wide .ensures) at (c .before .before .before .before .before .before .before .before .before .before .before .before .before .before .before .before .before .before .stepped .ensures)) (c .before .before .before .before .before .before .before .before .before .before .before .before .before .before .before .before .assuming .ensures) (c .before .before .before .before .before .before .before .before .before .before .before .before .arrive .ensures)) (c .before .before .before .before .before .before .before .before .before .before .before .before .arrive .kept .1 .1 .1 .1 .1 .0 ∙ c .before .before .before .before .before .before .before .before .before .before .before .before .before .before .before .before .assuming .kept .0) (c .before .before .before .before .before .before .before .before .before .before .before .before .before .before .before .before .before .before .before .before .before .before .before .before .before .before .before .pre .1 .0)) (c .before .before .stepped2 .ensures) (opposite-below (c .before .before .before .before .before .before .before .before .before .before .before .before .before .before .before .before .before .before .before .before .before .before .before .before .before .before .before .args .kind) (c .before .opposite .ensures) (pair-below (c .before .before .before .before .before .before .before .before .before .before .before .before .before .before .before .before .before .before .before .before .before .before .before .before .before .before .before .pre .1 .1 .1 .1 .1 .0) (c .before .before .before .before .before .before .before .before .before .before .before .before .before .before .before .before .before .before .before .before .before .before .before .before .before .before .before .pre .1 .1 .1 .1 .1 .1) (c .before .before .before .before .before .before .before .before .before .before .before .before .before .before .before .before .before .before .before .before .before .node .ensures) (c .before .before .before .before .before .before .before .before .before .before .before .before .before .before .before .before .before .before .before .before .node2 .ensures) (c .before .before .before .before .before .before .before .before .before .before .before .before .before .before .before .before .before .before .before .before .before .before .before .before .before .before .before .pre .1 .0 .path-in)))
 
--- src/jumps.rt:124:1
 same-length-3 : tie.Need-same-length-3
-same-length-3 c = c .before .before .assuming2 .kept .0 ∙ c .before .before .before .before .before .before .before .before .before .before .before .before .before .before .arrive .kept .1 .1 .1 .1 .1 .0 ∙ c .before .before .before .before .before .before .before .before .before .before .before .before .before .before .before .before .before .before .assuming .kept .0
+same-length-3 c = c .before .before .assuming2 .kept .0 ∙ c .before .before .before .before .before .before .before .before .before .before .before .before .before .before .before .arrive .kept .1 .1 .1 .1 .1 .0 ∙ c .before .before .before .before .before .before .before .before .before .before .before .before .before .before .before .before .before .before .before .assuming .kept .0
 
--- src/jumps.rt:124:1
 returns-3 : tie.Need-returns-3
-returns-3 c = branch-on (c .before .before .before .before .before .before .before .before .before .before .before .before .before .before .before .before .before .before .before .before .before .before .before .before .before .before .before .pre .1 .0) (c .before .before .before .before .before .before .before .before .before .before .before .before .before .before .before .before .before .before .before .before .before .before .before .before .before .before .before .pre .1 .1 .0) (rw (c .before .before .before .before .before .before .before .before .before .before .before .before .before .before .before .before .before .before .before .before .before .wide .ensures) at (c .before .before .before .before .before .before .before .before .before .before .before .before .before .before .before .before .before .before .before .before .stepped .ensures)) (c .before .before .before .before .before .before .before .before .before .before .before .before .before .before .before .before .before .before .assuming .ensures) (c .before .before .before .before .before .before .before .before .before .before .before .before .before .before .arrive .ensures) (c .before .before .before .before .before .before .before .before .before .before .arrived .given .1) (c .before .before .before .before .before .before .before .judged .given .1) (c .before .before .before .before .before .before .before .before .before .before .before .before .before .before .before .before .before .before .before .before .before .before .before .before .before .before .before .args .opposite) (c .before .before .before .before .before .before .before .before .before .before .before .before .before .before .before .before .before .before .before .before .before .before .before .before .before .before .before .pre .1 .1 .1 .1 .1 .1) (c .before .before .before .before .before .before .before .before .before .before .before .before .before .before .arrive .kept .1 .1 .1 .1 .1 .0 ∙ c .before .before .before .before .before .before .before .before .before .before .before .before .before .before .before .before .before .before .assuming .kept .0) (c .before .before .before .before .stepped2 .ensures) (c .before .before .assuming2 .ensures)
+returns-3 c = rw (← c .before .before .before .before .before .before .before .before .before .before .before .before .before .before .before .before .before .before .before .before .before .before .before .before .node .ensures, ← c .before .before .before .before .before .before .before .before .before .before .before .before .before .before .before .before .before .before .before .before .before .before .before .node2 .ensures, ← c .before .before .before .before .opposite .ensures) (branch-on (c .before .before .before .before .before .before .before .before .before .before .before .before .before .before .before .before .before .before .before .before .before .before .before .before .before .before .before .before .before .before .pre .1 .0) (c .before .before .before .before .before .before .before .before .before .before .before .before .before .before .before .before .before .before .before .before .before .before .before .before .before .before .before .before .before .before .pre .1 .1 .0) (rw (c .before .before .before .before .before .before .before .before .before .before .before .before .before .before .before .before .before .before .before .before .before .before .wide .ensures) at (c .before .before .before .before .before .before .before .before .before .before .before .before .before .before .before .before .before .before .before .before .before .stepped .ensures)) (c .before .before .before .before .before .before .before .before .before .before .before .before .before .before .before .before .before .before .before .assuming .ensures) (c .before .before .before .before .before .before .before .before .before .before .before .before .before .before .before .arrive .ensures) (c .before .before .before .before .before .before .before .before .before .before .before .arrived .given .1) (c .before .before .before .before .before .before .before .before .judged .given .1) (c .before .before .before .before .opposite .result) (opposite-below (c .before .before .before .before .before .before .before .before .before .before .before .before .before .before .before .before .before .before .before .before .before .before .before .before .before .before .before .before .before .before .args .kind) (c .before .before .before .before .opposite .ensures) (pair-below (c .before .before .before .before .before .before .before .before .before .before .before .before .before .before .before .before .before .before .before .before .before .before .before .before .before .before .before .before .before .before .pre .1 .1 .1 .1 .1 .0) (c .before .before .before .before .before .before .before .before .before .before .before .before .before .before .before .before .before .before .before .before .before .before .before .before .before .before .before .before .before .before .pre .1 .1 .1 .1 .1 .1) (c .before .before .before .before .before .before .before .before .before .before .before .before .before .before .before .before .before .before .before .before .before .before .before .before .node .ensures) (c .before .before .before .before .before .before .before .before .before .before .before .before .before .before .before .before .before .before .before .before .before .before .before .node2 .ensures) (c .before .before .before .before .before .before .before .before .before .before .before .before .before .before .before .before .before .before .before .before .before .before .before .before .before .before .before .before .before .before .pre .1 .0 .path-in))) (c .before .before .before .before .before .before .before .before .before .before .before .before .before .before .before .arrive .kept .1 .1 .1 .1 .1 .0 ∙ c .before .before .before .before .before .before .before .before .before .before .before .before .before .before .before .before .before .before .before .assuming .kept .0) (c .before .before .before .before .before .stepped2 .ensures) (c .before .before .assuming2 .ensures))
 
 pub branch-to-spec : {M : Type 1} → statement M
 branch-to-spec =
     tie.close
     (tie.spec
+    node-requires
+    node-requires-2
     wide-requires
     stepped-requires
     assuming-requires
@@ -110,6 +95,7 @@ branch-to-spec =
     returns-2
     add-stepped
     stepped-requires-2
+    opposite-requires
     assuming-requires-2
     same-length-3
     returns-3)

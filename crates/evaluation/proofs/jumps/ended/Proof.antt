@@ -1,24 +1,17 @@
-use native.Mathlib.Omega.{arith}
 use borrow.Author.Needs.{needs}
 use Rattle.evaluation.proofs.Jumping.{ended-on, ended-refused}
 use Rattle.evaluation.proofs.jumps.ended.Statement.{statement}
 use Rattle.evaluation.proofs.jumps.ended.Tie as tie
-use Rattle.evaluation.proofs.jumps.ended.Reads as reads
-use Rattle.evaluation.proofs.jumps.ended.Lts as lts
 
--- src/jumps.rt:73:22
 enum-known-judged : tie.Need-enum-known-judged
 enum-known-judged c = search needs
 
--- src/jumps.rt:77:25
 enum-known-judged-2 : tie.Need-enum-known-judged-2
 enum-known-judged-2 c = search needs
 
--- src/jumps.rt:69:1
 returns : tie.Need-returns
 returns c = ended-on _ (c .before .judged .given .1)
 
--- src/jumps.rt:69:1
 returns-2 : tie.Need-returns-2
 returns-2 c = ended-refused _ (c .before .judged2 .given .1)
 

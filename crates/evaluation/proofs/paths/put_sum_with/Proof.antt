@@ -1,35 +1,23 @@
-use native.Mathlib.Omega.{arith}
 use borrow.Author.Needs.{needs}
 use Rattle.evaluation.proofs.Assigning.{first-room, second-room, sum-with-built}
 use Rattle.evaluation.proofs.paths.put_sum_with.Statement.{statement}
 use Rattle.evaluation.proofs.paths.put_sum_with.Tie as tie
-use Rattle.evaluation.proofs.paths.put_sum_with.Reads as reads
-use Rattle.evaluation.proofs.paths.put_sum_with.Lts as lts
-use Rattle.evaluation.proofs.paths.node.Reads as node-reads
-use Rattle.terms.proofs.put_constant.Reads as put-constant-reads
-use Rattle.terms.proofs.put_sum.Reads as put-sum-reads
 
--- src/paths.rt:47:5
 put-constant-requires : tie.Need-put-constant-requires
 put-constant-requires c κs = first-room (c .before .before .pre .1)
 
--- src/paths.rt:48:24
 add-put-sum : tie.Need-add-put-sum
 add-put-sum c = search needs
 
--- src/paths.rt:48:33
 node-requires : tie.Need-node-requires
 node-requires c κs = search needs
 
--- src/paths.rt:48:5
 put-sum-requires : tie.Need-put-sum-requires
 put-sum-requires c κs = second-room (c .before .before .before .before .before .before .before .pre .1) (c .before .before .before .before .before .before .before .pre .0) (c .node .ensures) (c .before .before .before .before .put-constant .kept .0) (c .before .before .before .before .put-constant .ensures)
 
--- src/paths.rt:41:1
 same-length : tie.Need-same-length
 same-length c = search needs
 
--- src/paths.rt:41:1
 returns : tie.Need-returns
 returns c = sum-with-built (c .before .before .before .before .before .before .before .before .before .before .pre .1 .path-in) (c .before .before .before .before .before .before .before .put-constant .kept .0) (c .before .before .put-sum .kept .0) (c .before .before .before .before .before .before .before .before .before .before .pre .0) (c .before .before .before .node .ensures) (c .before .before .before .before .before .before .before .put-constant .ensures) (c .before .before .put-sum .ensures)
 

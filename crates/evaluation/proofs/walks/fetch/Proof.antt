@@ -1,29 +1,20 @@
-use native.Mathlib.Omega.{arith}
 use borrow.Author.Needs.{needs}
 use Rattle.evaluation.proofs.WalkLaws.{fetched, not-fetched}
 use Rattle.evaluation.proofs.walks.fetch.Statement.{statement}
 use Rattle.evaluation.proofs.walks.fetch.Tie as tie
-use Rattle.evaluation.proofs.walks.fetch.Reads as reads
-use Rattle.evaluation.proofs.walks.fetch.Lts as lts
-use Rattle.routine.proofs.instructions.instruction.Reads as instruction-reads
 
--- src/walks.rt:56:9
 instruction-requires : tie.Need-instruction-requires
 instruction-requires c κs = search needs
 
--- src/walks.rt:58:35
 enum-known-answer : tie.Need-enum-known-answer
 enum-known-answer c = search needs
 
--- src/walks.rt:59:42
 enum-told : tie.Need-enum-told
 enum-told c = search needs
 
--- src/walks.rt:51:1
 returns : tie.Need-returns
 returns c = fetched (c .before .before .before .before .before .pre .1) (c .before .before .before .instruction .ensures) (c .before .answer .given .1)
 
--- src/walks.rt:51:1
 returns-2 : tie.Need-returns-2
 returns-2 c = not-fetched (c .before .before .before .before .pre .1) (c .before .before .instruction .ensures) (c .enum-told .given .1)
 
