@@ -76,11 +76,6 @@ abbrev pub stepOf : List ℕ → Step → Result Refusal (List Atom × ℕ)
 stepOf us (Premises p next) = value (premisesOf us p, next)
 stepOf us (RefusedStep f) = stop f
 
--- the refusal that a step is; where it is none, its position
-abbrev pub refusedOf : Step → Derived
-refusedOf (Premises p next) = Next next
-refusedOf (RefusedStep f) = Refused f
-
 -- a premise's nodes are below top, its variables among the first n
 pub record PremiseWithin (us : List ℕ) (top n : ℕ) (p : Premise) : Type 0 where
   pub below : PremiseBelow top p

@@ -8,7 +8,7 @@ use model::Refusal;
 use opening::Opened;
 ghost use mathlib.Core.Path.{_≡_};
 ghost use Rattle.model.specs.Derivation.{mostLevels};
-ghost use Rattle.derivation.specs.Deriving.{refusedOf, Derivable, Applies, Derives};
+ghost use Rattle.derivation.specs.Deriving.{Derivable, Applies, Derives};
 
 // What a goal or a premise claims; terms are nodes of the table.
 pub enum Claim {
@@ -98,16 +98,6 @@ fn apply(
     }
 }
 
-// The refusal that a step is; a step with premises is none, and gives its position.
-fn refused(step: Step) -> Derived
-    ensures { λ r. ⌜ r ≡ refusedOf step ⌝ }
-{
-    match step {
-        Step::Refused(refusal) => Derived::Refused(refusal),
-        Step::Premises { plan: _, next } => Derived::Next(next),
-    }
-}
-
 // The derivation of a claim in the proof at a position, of at most so many levels. What it builds above the top is free again when it
 // returns.
 pub fn derive(
@@ -126,33 +116,34 @@ pub fn derive(
     if levels == 0 {
         return Derived::Refused(Refusal::DeepDerivation(at));
     }
-    let step = apply(bytes, regions, ws, scope, top, claim, at);
-    let Step::Premises { plan, next } = step else {
-        return refused(step);
-    };
-    let count = plan.count;
-    let high = plan.top;
-    if count == 0 {
-        return Derived::Next(next);
+    match apply(bytes, regions, ws, scope, top, claim, at) {
+        Step::Refused(refusal) => Derived::Refused(refusal),
+        Step::Premises { plan, next } => {
+            let count = plan.count;
+            let high = plan.top;
+            if count == 0 {
+                return Derived::Next(next);
+            }
+            let first = claimed(plan.first);
+            let middle = match derive(bytes, regions, ws, scope, levels - 1, high, first, next) {
+                Derived::Next(middle) => middle,
+                Derived::Refused(refusal) => return Derived::Refused(refusal),
+            };
+            if count == 1 {
+                return Derived::Next(middle);
+            }
+            let second = claimed(plan.second);
+            let last = match derive(bytes, regions, ws, scope, levels - 1, high, second, middle) {
+                Derived::Next(last) => last,
+                Derived::Refused(refusal) => return Derived::Refused(refusal),
+            };
+            if count == 2 {
+                return Derived::Next(last);
+            }
+            let third = claimed(plan.third);
+            derive(bytes, regions, ws, scope, levels - 1, high, third, last)
+        }
     }
-    let first = claimed(plan.first);
-    let one = derive(bytes, regions, ws, scope, levels - 1, high, first, next);
-    let Derived::Next(middle) = one else {
-        return one;
-    };
-    if count == 1 {
-        return one;
-    }
-    let second = claimed(plan.second);
-    let two = derive(bytes, regions, ws, scope, levels - 1, high, second, middle);
-    let Derived::Next(last) = two else {
-        return two;
-    };
-    if count == 2 {
-        return two;
-    }
-    let third = claimed(plan.third);
-    derive(bytes, regions, ws, scope, levels - 1, high, third, last)
 }
 
 // The derivation of a goal's claim in the proof at a position, at most 32 deep.
