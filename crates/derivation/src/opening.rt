@@ -128,7 +128,7 @@ fn with_argument(
     };
     Opened::Rule {
         number,
-        value,
+        value: fields::wide(value),
         next,
         top: high,
     }

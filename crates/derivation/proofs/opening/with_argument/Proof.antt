@@ -1,7 +1,7 @@
-use native.Mathlib.Omega.{arith}
-use borrow.Author.Needs.{needs}
 use Rattle.derivation.proofs.OpeningLaws.{opening-ready, opens-argument, opens-no-argument}
 use Rattle.terms.proofs.Atoms.{told-expression}
+use native.Mathlib.Omega.{arith}
+use borrow.Author.Needs.{needs}
 use Rattle.derivation.proofs.opening.with_argument.Statement.{statement}
 use Rattle.derivation.proofs.opening.with_argument.Tie as tie
 
@@ -23,11 +23,14 @@ same-length c = search needs
 returns : tie.Need-returns
 returns c = opens-no-argument (c .before .before .before .before .before .before .before .before .pre .0) (c .before .before .before .before .before .before .before .before .pre .1) (c .before .before .before .before .expression .result) (c .before .match .keys2) (c .before .before .before .before .expression .ensures) (c .refusal .ensures)
 
+wide-requires : tie.Need-wide-requires
+wide-requires c κs = search needs
+
 same-length-2 : tie.Need-same-length-2
 same-length-2 c = search needs
 
 returns-2 : tie.Need-returns-2
-returns-2 c = opens-argument (c .before .before .before .before .before .before .before .before .before .pre .0) (c .before .before .before .before .before .before .before .before .before .pre .1) (told-expression (c .before .before .before .before .before .expression .ensures) (c .before .answer .given .1))
+returns-2 c = rw (c .wide .ensures) (opens-argument (c .before .before .before .before .before .before .before .before .before .before .pre .0) (c .before .before .before .before .before .before .before .before .before .before .pre .1) (told-expression (c .before .before .before .before .before .before .expression .ensures) (c .before .before .answer .given .1)))
 
 pub with-argument-spec : {M : Type 1} → statement M
 with-argument-spec =
@@ -39,5 +42,6 @@ with-argument-spec =
     refusal-requires
     same-length
     returns
+    wide-requires
     same-length-2
     returns-2)
