@@ -126,5 +126,8 @@ pub fn annotation_block(bytes: &[u8], end: usize, at: usize, index: usize, ws: &
     };
     let number = crate::wide(bytes[at + 2]);
     let path = assume(bytes, end, next, number, ws, crate::raised(first, top));
-    Block { path, credit }
+    Block {
+        path,
+        credit: fields::wide(credit),
+    }
 }

@@ -222,7 +222,16 @@ pub fn arrival(
     let Judged::Next(after) = first else {
         return first;
     };
-    credits(bytes, regions, count, ws, inner, credit, owed, after)
+    credits(
+        bytes,
+        regions,
+        count,
+        ws,
+        inner,
+        credit,
+        fields::wide(owed),
+        after,
+    )
 }
 
 // The goals of a return: the atoms of the postcondition, `number` of which stand at `at` in the policy, and the instructions run, the return

@@ -1,9 +1,9 @@
+use Rattle.goals.proofs.Walking.{path-ready}
+use Rattle.goals.proofs.Arriving.{arrival-unread, arrival-asks, arrival-stopped, owed-asks, arrival-judged}
 use native.Mathlib.Omega.{arith}
 use borrow.Author.Needs.{needs}
 use Rattle.goals.proofs.arrival.Statement.{statement}
 use Rattle.goals.proofs.arrival.Tie as tie
-use Rattle.goals.proofs.Walking.{path-ready}
-use Rattle.goals.proofs.Arriving.{arrival-unread, arrival-asks, arrival-stopped, owed-asks, arrival-judged}
 
 add-expression : tie.Need-add-expression
 add-expression c = search needs
@@ -47,14 +47,17 @@ same-length-2 c = search needs
 returns-2 : tie.Need-returns-2
 returns-2 c = arrival-stopped (c .before .before .before .before .before .before .before .before .before .before .before .before .before .before .before .before .before .before .before .before .args .at) (c .before .before .before .before .before .before .before .before .before .before .before .before .before .before .before .before .before .before .before .before .pre .1 .0) (c .before .before .before .before .before .before .before .before .before .before .before .before .before .before .before .before .before .before .before .before .pre .1 .1) (c .before .before .before .before .before .before .before .before .before .before .before .before .before .before .expression .kept .1 .0) (c .before .before .before .before .before .before .before .before .before .before .before .before .before .before .expression .ensures) (c .before .before .before .before .before .before .before .before .before .before .read .given .1) (c .before .before .before .before .before .before .before .before .raised .ensures) (c .before .before .before .before .before .before .wide .ensures) (c .before .before .before .before .atoms .ensures) (c .enum-told .given .1)
 
+wide-requires-2 : tie.Need-wide-requires-2
+wide-requires-2 c κs = search needs
+
 credits-requires : tie.Need-credits-requires
-credits-requires c κs = owed-asks (c .before .before .before .before .before .before .before .before .before .before .before .before .before .before .before .before .before .before .before .before .before .before .args .at) (c .before .before .before .before .before .before .before .before .before .before .before .before .before .before .before .before .before .before .before .before .before .before .pre .1 .0) (c .before .before .before .before .before .before .before .before .before .before .before .before .before .before .before .before .before .before .before .before .before .before .pre .1 .1) (c .before .before .before .before .before .before .before .before .before .before .before .before .before .before .before .before .expression .kept .1 .0) (c .before .before .before .before .before .before .before .before .before .before .before .before .before .before .before .before .expression .ensures) (c .before .before .before .before .before .before .before .before .before .before .before .before .read .given .1) (c .before .before .before .before .before .before .before .before .before .before .raised .ensures) (c .before .before .before .before .before .before .before .before .wide .ensures) (c .before .before .before .before .before .before .atoms .ensures) (c .before .before .first .given .1) (c .before .before .before .before .before .before .atoms .kept .1 .1 .1 .1 .1 .1 .1 .0)
+credits-requires c κs = rw (c .wide2 .ensures) (owed-asks (c .before .before .before .before .before .before .before .before .before .before .before .before .before .before .before .before .before .before .before .before .before .before .before .args .at) (c .before .before .before .before .before .before .before .before .before .before .before .before .before .before .before .before .before .before .before .before .before .before .before .pre .1 .0) (c .before .before .before .before .before .before .before .before .before .before .before .before .before .before .before .before .before .before .before .before .before .before .before .pre .1 .1) (c .before .before .before .before .before .before .before .before .before .before .before .before .before .before .before .before .before .expression .kept .1 .0) (c .before .before .before .before .before .before .before .before .before .before .before .before .before .before .before .before .before .expression .ensures) (c .before .before .before .before .before .before .before .before .before .before .before .before .before .read .given .1) (c .before .before .before .before .before .before .before .before .before .before .before .raised .ensures) (c .before .before .before .before .before .before .before .before .before .wide .ensures) (c .before .before .before .before .before .before .before .atoms .ensures) (c .before .before .before .first .given .1) (c .before .before .before .before .before .before .before .atoms .kept .1 .1 .1 .1 .1 .1 .1 .0))
 
 same-length-3 : tie.Need-same-length-3
 same-length-3 c = search needs
 
 returns-3 : tie.Need-returns-3
-returns-3 c = arrival-judged (c .before .before .before .before .before .before .before .before .before .before .before .before .before .before .before .before .before .before .before .before .before .before .before .before .before .args .at) (c .before .before .before .before .before .before .before .before .before .before .before .before .before .before .before .before .before .before .before .before .before .before .before .before .before .pre .1 .0) (c .before .before .before .before .before .before .before .before .before .before .before .before .before .before .before .before .before .before .before .before .before .before .before .before .before .pre .1 .1) (c .before .before .before .before .before .before .before .before .before .before .before .before .before .before .before .before .before .before .before .expression .kept .1 .0) (c .before .before .before .before .before .before .before .before .before .before .before .before .before .before .before .before .before .before .before .expression .ensures) (c .before .before .before .before .before .before .before .before .before .before .before .before .before .before .before .read .given .1) (c .before .before .before .before .before .before .before .before .before .before .before .before .before .raised .ensures) (c .before .before .before .before .before .before .before .before .before .before .before .wide .ensures) (c .before .before .before .before .before .before .before .before .before .atoms .ensures) (c .before .before .before .before .before .first .given .1) (c .before .before .before .before .before .before .before .before .before .atoms .kept .1 .1 .1 .1 .1 .1 .1 .0) (c .before .before .credits .ensures)
+returns-3 c = arrival-judged (c .before .before .before .before .before .before .before .before .before .before .before .before .before .before .before .before .before .before .before .before .before .before .before .before .before .before .args .at) (c .before .before .before .before .before .before .before .before .before .before .before .before .before .before .before .before .before .before .before .before .before .before .before .before .before .before .pre .1 .0) (c .before .before .before .before .before .before .before .before .before .before .before .before .before .before .before .before .before .before .before .before .before .before .before .before .before .before .pre .1 .1) (c .before .before .before .before .before .before .before .before .before .before .before .before .before .before .before .before .before .before .before .before .expression .kept .1 .0) (c .before .before .before .before .before .before .before .before .before .before .before .before .before .before .before .before .before .before .before .before .expression .ensures) (c .before .before .before .before .before .before .before .before .before .before .before .before .before .before .before .before .read .given .1) (c .before .before .before .before .before .before .before .before .before .before .before .before .before .before .raised .ensures) (c .before .before .before .before .before .before .before .before .before .before .before .before .wide .ensures) (c .before .before .before .before .before .before .before .before .before .before .atoms .ensures) (c .before .before .before .before .before .before .first .given .1) (c .before .before .before .before .before .before .before .before .before .before .atoms .kept .1 .1 .1 .1 .1 .1 .1 .0) (rw (← c .before .before .before .wide2 .ensures) (c .before .before .credits .ensures))
 
 pub arrival-spec : {M : Type 1} → statement M
 arrival-spec =
@@ -74,6 +77,7 @@ arrival-spec =
     enum-told
     same-length-2
     returns-2
+    wide-requires-2
     credits-requires
     same-length-3
     returns-3)

@@ -1,9 +1,9 @@
+use mathlib.Core.Path.{_∙_}
+use Rattle.goals.proofs.Starting.{start-ready, block-asks, annotation-unread, annotation-found, annotation-block}
 use native.Mathlib.Omega.{arith}
 use borrow.Author.Needs.{needs}
 use Rattle.goals.proofs.blocks.annotation_block.Statement.{statement}
 use Rattle.goals.proofs.blocks.annotation_block.Tie as tie
-use mathlib.Core.Path.{_∙_}
-use Rattle.goals.proofs.Starting.{start-ready, block-asks, annotation-unread, annotation-found, annotation-block}
 
 start-requires : tie.Need-start-requires
 start-requires c κs = search needs
@@ -38,11 +38,14 @@ raised-requires c κs = search needs
 assume-requires : tie.Need-assume-requires
 assume-requires c κs = (c .before .before .before .before .before .before .before .before .before .before .before .before .before .before .before .before .before .before .pre .1 .0, block-asks (c .before .before .before .before .before .before .before .before .before .before .before .before .before .before .start .ensures) (annotation-found (c .before .before .before .before .before .before .before .before .before .before .before .before .before .before .start .ensures) (c .before .before .before .before .before .before .before .before .before .before .before .before .before .before .before .before .before .before .args .at) (c .before .before .before .before .before .before .before .before .before .expression .result) (c .before .before .before .before .before .before .before .before .before .expression .kept .1 .0) (c .before .before .before .before .before .before .before .before .before .expression .ensures) (c .before .before .before .before .before .read .given .1) .above) (c .raised .ensures) (omega (arith, c .before .before .wide .ensures, c .before .before .before .before .before .before .before .before .before .before .before .before .before .before .before .before .before .before .pre .1 .2)) (omega arith) (omega (arith, c .before .before .before .before .before .before .before .before .before .before .before .before .before .before .before .before .before .before .pre .0 .words, c .before .before .before .before .before .before .before .before .before .before .before .before .before .before .start .kept .0, c .before .before .before .before .before .before .before .before .before .expression .kept .1 .0)))
 
+wide-requires-2 : tie.Need-wide-requires-2
+wide-requires-2 c κs = search needs
+
 same-length-2 : tie.Need-same-length-2
-same-length-2 c = c .before .before .assume .kept .1 .1 .1 .1 .0 ∙ c .before .before .before .before .before .before .before .before .before .before .before .before .expression .kept .1 .0 ∙ c .before .before .before .before .before .before .before .before .before .before .before .before .before .before .before .before .before .start .kept .0
+same-length-2 c = c .before .before .before .assume .kept .1 .1 .1 .1 .0 ∙ c .before .before .before .before .before .before .before .before .before .before .before .before .before .expression .kept .1 .0 ∙ c .before .before .before .before .before .before .before .before .before .before .before .before .before .before .before .before .before .before .start .kept .0
 
 returns-2 : tie.Need-returns-2
-returns-2 c = annotation-block (c .before .before .before .before .before .before .before .before .before .before .before .before .before .before .before .before .before .start .ensures) (c .before .before .before .before .before .before .before .before .before .before .before .before .before .before .before .before .before .before .before .before .before .args .at) (c .before .before .before .before .before .before .before .before .before .before .before .before .expression .result) (c .before .before .before .before .before .before .before .before .before .before .before .before .expression .kept .1 .0) (c .before .before .before .before .before .before .before .before .before .before .before .before .expression .ensures) (c .before .before .before .before .before .before .before .before .read .given .1) (c .before .before .before .before .before .wide .ensures) (c .before .before .before .before .before .before .before .before .before .before .before .before .before .before .before .before .before .before .before .before .before .pre .1 .2) (c .before .before .before .raised .ensures) (c .before .before .assume .ensures)
+returns-2 c = rw (c .wide2 .ensures) (annotation-block (c .before .before .before .before .before .before .before .before .before .before .before .before .before .before .before .before .before .before .start .ensures) (c .before .before .before .before .before .before .before .before .before .before .before .before .before .before .before .before .before .before .before .before .before .before .args .at) (c .before .before .before .before .before .before .before .before .before .before .before .before .before .expression .result) (c .before .before .before .before .before .before .before .before .before .before .before .before .before .expression .kept .1 .0) (c .before .before .before .before .before .before .before .before .before .before .before .before .before .expression .ensures) (c .before .before .before .before .before .before .before .before .before .read .given .1) (c .before .before .before .before .before .before .wide .ensures) (c .before .before .before .before .before .before .before .before .before .before .before .before .before .before .before .before .before .before .before .before .before .before .pre .1 .2) (c .before .before .before .before .raised .ensures) (c .before .before .before .assume .ensures))
 
 pub annotation-block-spec : {M : Type 1} → statement M
 annotation-block-spec =
@@ -59,5 +62,6 @@ annotation-block-spec =
     wide-requires
     raised-requires
     assume-requires
+    wide-requires-2
     same-length-2
     returns-2)
