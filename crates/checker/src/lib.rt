@@ -2,10 +2,10 @@
 
 use annotations::reading::AnnotationsAnswer;
 use annotations::targets::TargetsAnswer;
-use evaluation::Setting;
 use model::Header;
 use model::Refusal;
 use model::Verdict;
+use moves::Setting;
 use policy::Policy;
 use policy::PolicyAnswer;
 use routine::header::HeaderAnswer;

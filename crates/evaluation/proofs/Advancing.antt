@@ -19,12 +19,13 @@ use Rattle.goals.specs.Judging.{Reached}
 use Rattle.goals.specs.Walking.{pathOf, PathIn}
 use Rattle.goals.specs.declared.Path.{Path}
 use Rattle.goals.specs.declared.Progress.{Progress}
-use Rattle.evaluation.specs.declared.Setting.{Setting}
-use Rattle.evaluation.specs.declared.Moved.{Moved}
-use Rattle.evaluation.specs.Setting.{Stands, Fixed, Tables, TablesStand}
-use Rattle.evaluation.specs.Moves.{MoveJudged, Moves, Branches, Advances, Assigns, Accesses}
-use Rattle.evaluation.proofs.PathLaws.{register-term}
-use Rattle.evaluation.proofs.Standing.{regions-stand, postcondition-stands}
+use Rattle.moves.specs.declared.Setting.{Setting}
+use Rattle.moves.specs.declared.Moved.{Moved}
+use Rattle.moves.specs.Setting.{Stands, Fixed, Tables, TablesStand}
+use Rattle.moves.specs.Moves.{MoveJudged, Moves, Branches, Assigns, Accesses}
+use Rattle.evaluation.specs.Walks.{Advances}
+use Rattle.moves.proofs.PathLaws.{register-term}
+use Rattle.moves.proofs.Standing.{regions-stand, postcondition-stands}
 
 -- an instruction's fields, once its kind is known
 pub formed-as : (n : ℕ) {x y : Instruction} → Formed n x → x ≡ y → Formed n y

@@ -30,16 +30,17 @@ use Rattle.goals.specs.declared.Progress.{Progress}
 use Rattle.goals.specs.declared.Judged.{Judged}
 use Rattle.goals.specs.declared.Judged.the-variants.{Next, Refused}
 use Rattle.goals.specs.declared.blocks.Block.{Block}
-use Rattle.evaluation.specs.declared.Setting.{Setting}
-use Rattle.evaluation.specs.declared.Arrived.{Arrived}
-use Rattle.evaluation.specs.declared.Arrived.the-variants.{At, Nowhere}
-use Rattle.evaluation.specs.Setting.{Stands, Fixed, Tables, TablesStand}
-use Rattle.evaluation.specs.Standing.{AnnotationStands}
-use Rattle.evaluation.specs.Moves.{RoomFor, Kept, ArrivedAs, ReachedThere, Arrives, Walks}
+use Rattle.moves.specs.declared.Setting.{Setting}
+use Rattle.moves.specs.declared.Arrived.{Arrived}
+use Rattle.moves.specs.declared.Arrived.the-variants.{At, Nowhere}
+use Rattle.moves.specs.Setting.{Stands, Fixed, Tables, TablesStand}
+use Rattle.moves.specs.Standing.{AnnotationStands}
+use Rattle.moves.specs.Moves.{RoomFor, Kept, ArrivedAs, ReachedThere, Arrives}
+use Rattle.evaluation.specs.Walks.{Walks}
 use Rattle.evaluation.specs.Blocks.{TraceJudged, verdictOf}
 use Rattle.goals.proofs.Judging.{goals-end, trace-end, trace-stopped, trace-both, trace-whole}
-use Rattle.evaluation.proofs.PathLaws.{kept-same, node-equal, node-held, path-equal, room-kept}
-use Rattle.evaluation.proofs.Standing.{limit-stands, precondition-stands, code-long, placed-stands, index-at, annotation-at, annotations-long}
+use Rattle.moves.proofs.PathLaws.{kept-same, node-equal, node-held, path-equal, room-kept}
+use Rattle.moves.proofs.Standing.{limit-stands, precondition-stands, code-long, placed-stands, index-at, annotation-at, annotations-long}
 use Rattle.evaluation.proofs.Advancing.{fixed-tables, fixed-stand}
 
 -- words that keep the coefficients

@@ -1,10 +1,3 @@
-pub mod Moving
-pub mod PathLaws
-pub mod Standing
-pub mod Assigning
-pub mod Accessing
-pub mod Jumping
 pub mod Advancing
 pub mod WalkLaws
 pub mod BlockLaws
-pub mod RegionLaws

@@ -28,17 +28,18 @@ use Rattle.goals.specs.declared.Path.{Path}
 use Rattle.goals.specs.declared.Progress.{Progress}
 use Rattle.goals.specs.declared.Judged.{Judged}
 use Rattle.goals.specs.declared.Judged.the-variants.{Next as Judged-on, Refused as Judged-refused}
-use Rattle.evaluation.specs.declared.Setting.{Setting}
-use Rattle.evaluation.specs.declared.Moved.{Moved}
-use Rattle.evaluation.specs.declared.MovedAnswer.{MovedAnswer}
-use Rattle.evaluation.specs.declared.MovedAnswer.the-variants.{On, Ended, Refused}
-use Rattle.evaluation.specs.declared.Arrived.{Arrived}
-use Rattle.evaluation.specs.declared.Arrived.the-variants.{At, Nowhere}
-use Rattle.evaluation.specs.Setting.{Stands, Fixed, Tables, TablesStand}
-use Rattle.evaluation.specs.Moves.{RoomFor, Kept, Advanced, Leads, MoveJudged, Advances, ArrivedAs, ReachedThere, Arrives, Fetched, Walks}
-use Rattle.evaluation.proofs.Moving.{moveAt, walk-past, walk-refused, walk-ended, walk-onward, walk-arrived}
-use Rattle.evaluation.proofs.PathLaws.{kept-same, node-equal, node-held, node-wider, path-equal, room-kept}
-use Rattle.evaluation.proofs.Standing.{code-long}
+use Rattle.moves.specs.declared.Setting.{Setting}
+use Rattle.moves.specs.declared.Moved.{Moved}
+use Rattle.moves.specs.declared.MovedAnswer.{MovedAnswer}
+use Rattle.moves.specs.declared.MovedAnswer.the-variants.{On, Ended, Refused}
+use Rattle.moves.specs.declared.Arrived.{Arrived}
+use Rattle.moves.specs.declared.Arrived.the-variants.{At, Nowhere}
+use Rattle.moves.specs.Setting.{Stands, Fixed, Tables, TablesStand}
+use Rattle.moves.specs.Moves.{RoomFor, Kept, Advanced, Leads, MoveJudged, ArrivedAs, ReachedThere, Arrives}
+use Rattle.evaluation.specs.Walks.{Advances, Fetched, Walks}
+use Rattle.moves.proofs.Moving.{moveAt, walk-past, walk-refused, walk-ended, walk-onward, walk-arrived}
+use Rattle.moves.proofs.PathLaws.{kept-same, node-equal, node-held, node-wider, path-equal, room-kept}
+use Rattle.moves.proofs.Standing.{code-long}
 use Rattle.evaluation.proofs.Advancing.{fixed-tables, fixed-stand}
 
 -- ---- the instruction at an index

@@ -1,4 +1,2 @@
-pub mod Setting
-pub mod Standing
-pub mod Moves
+pub mod Walks
 pub mod Blocks

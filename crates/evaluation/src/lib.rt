@@ -1,53 +1,21 @@
 // Symbolic evaluation of a routine: blocks in order, each goal derived as it arises.
-pub mod accesses;
-pub mod assignments;
 pub mod blocks;
-pub mod jumps;
-pub mod paths;
-pub mod regions;
 pub mod walks;
 
 use goals::Judged;
-use goals::Path;
 use goals::Progress;
-use model::Header;
 use model::Refusal;
 use model::Verdict;
-use policy::Policy;
+use moves::Setting;
+use moves::regions;
 ghost use mathlib.Core.Path.{_≡_};
 ghost use Rattle.model.specs.Policy.{Policy as ModelPolicy};
 ghost use Rattle.model.specs.Routine.{Routine};
 ghost use Rattle.model.specs.Goals.{traceOf};
 ghost use Rattle.model.specs.Verdict.{refusing, judge};
 ghost use Rattle.goals.specs.Starting.{Workspace};
-ghost use Rattle.evaluation.specs.Setting.{Settled, Stands};
+ghost use Rattle.moves.specs.Setting.{Settled, Stands};
 ghost use Rattle.evaluation.specs.Blocks.{verdictOf};
-
-// What stays fixed: the policy, the package's header, and where the proof starts.
-pub struct Setting {
-    pub policy: Policy,
-    pub header: Header,
-    pub end: usize,
-}
-
-// What comes of an instruction: the path goes on, or has ended, or the refusal and the goals derived by then.
-pub enum MovedAnswer {
-    On(Progress),
-    Ended(Progress),
-    Refused(Refusal, usize),
-}
-
-// The answer, and the path where it goes on.
-pub struct Moved {
-    pub path: Path,
-    pub answer: MovedAnswer,
-}
-
-// What comes of a path's arrival at an index: its goals, if the index is annotated.
-pub enum Arrived {
-    At(Judged),
-    Nowhere,
-}
 
 // A refusal's number and place, and the goals derived by then.
 fn refused(refusal: Refusal, goals: usize) -> Verdict

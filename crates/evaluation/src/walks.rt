@@ -1,12 +1,4 @@
 // The walk along a path, instruction by instruction.
-use crate::Arrived;
-use crate::Moved;
-use crate::MovedAnswer;
-use crate::Setting;
-use crate::accesses;
-use crate::assignments;
-use crate::assignments::Operation;
-use crate::jumps;
 use goals::Judged;
 use goals::Path;
 use goals::Progress;
@@ -14,6 +6,14 @@ use model::Comparison;
 use model::Header;
 use model::Instruction;
 use model::Refusal;
+use moves::Arrived;
+use moves::Moved;
+use moves::MovedAnswer;
+use moves::Setting;
+use moves::accesses;
+use moves::assignments;
+use moves::assignments::Operation;
+use moves::jumps;
 use routine::instructions;
 use routine::instructions::InstructionAnswer;
 ghost use mathlib.Core.Path.{_≡_};
@@ -23,8 +23,9 @@ ghost use Rattle.routine.specs.Headers.{Fits};
 ghost use Rattle.routine.specs.Code.{Formed};
 ghost use Rattle.goals.specs.Judging.{Reached};
 ghost use Rattle.goals.specs.Walking.{NodeIn};
-ghost use Rattle.evaluation.specs.Setting.{Fixed};
-ghost use Rattle.evaluation.specs.Moves.{RoomFor, Fetched, Advances, Walks};
+ghost use Rattle.moves.specs.Setting.{Fixed};
+ghost use Rattle.moves.specs.Moves.{RoomFor};
+ghost use Rattle.evaluation.specs.Walks.{Fetched, Advances, Walks};
 
 // The instruction at an index; checks 8 and 9 have passed it.
 fn fetch(bytes: &[u8], header: Header, index: usize) -> Instruction

@@ -1,0 +1,175 @@
+-- What running one instruction of a path owes. Assumes nothing.
+use mathlib.Core.Path.{_≡_}
+use mathlib.Core.Bool.{Bool, true, false}
+use mathlib.Core.Option.{Option, none, some}
+use mathlib.Core.List.{List}
+use Prim.Native.Nat.{ℕ, _+_, _*_, _≤_}
+use lib.ListN.{length, getD, set}
+use Rattle.model.specs.Term.{Term, sum, difference}
+use Rattle.model.specs.Policy.{Policy}
+use Rattle.model.specs.Package.{mostInstructions}
+use Rattle.model.specs.Annotation.{Annotation, annotationAt}
+use Rattle.model.specs.Routine.{Routine}
+use Rattle.model.specs.Goals.{Path as ModelPath, Trace, append, Move, arrival, assign, landing, tracing, onward, loading, branch}
+use Rattle.model.specs.Verdict.{refusing, judge}
+use Rattle.model.specs.declared.Region.{Region}
+use Rattle.model.specs.declared.Comparison.{Comparison}
+use Rattle.model.specs.declared.Comparison.the-variants.{Equal, Unequal, Less, AtMost}
+use Rattle.model.specs.declared.Verdict.{Verdict}
+use Rattle.model.specs.declared.Refusal.the-variants.{LargeTerm}
+use Rattle.terms.specs.Workspace.{workspaceWords, mostAssumptions, tableBase, mostTableNodes, Same}
+use Rattle.terms.specs.Table.{termAt, place}
+use Rattle.assumptions.specs.Area.{slot, atomIn}
+use Rattle.assumptions.specs.declared.Assumption.{Assumption}
+use Rattle.goals.specs.Judging.{Reached, ReachedAfter, Judges}
+use Rattle.goals.specs.Walking.{pathOf, raisedTo, NodeIn, PathIn, goalRoom}
+use Rattle.goals.specs.declared.Path.{Path}
+use Rattle.goals.specs.declared.Progress.{Progress}
+use Rattle.goals.specs.declared.Judged.{Judged}
+use Rattle.goals.specs.declared.Judged.the-variants.{Next as JudgedNext, Refused as JudgedRefused}
+use Rattle.moves.specs.declared.assignments.Operation.{Operation}
+use Rattle.moves.specs.declared.assignments.Operation.the-variants.{Add, Subtract}
+use Rattle.moves.specs.declared.Moved.{Moved}
+use Rattle.moves.specs.declared.MovedAnswer.{MovedAnswer}
+use Rattle.moves.specs.declared.MovedAnswer.the-variants.{On, Ended, Refused}
+use Rattle.moves.specs.declared.Arrived.{Arrived}
+use Rattle.moves.specs.declared.Arrived.the-variants.{At, Nowhere}
+
+-- ---- paths of the code
+-- one instruction more run, on to an index
+abbrev pub steppedTo : Path → (index : ℕ) → Path
+steppedTo p i = record { counter = i; steps = p .steps + 1; variables = p .variables; assumptions = p .assumptions; top = p .top; registers = p .registers }
+
+-- register d is a node
+abbrev pub writtenTo : Path → (d node : ℕ) → Path
+writtenTo p d node = record { counter = p .counter; steps = p .steps; variables = p .variables; assumptions = p .assumptions; top = p .top; registers = set (p .registers) d node }
+
+-- one variable more
+abbrev pub oneVariable : Path → Path
+oneVariable p = record { counter = p .counter; steps = p .steps; variables = p .variables + 1; assumptions = p .assumptions; top = p .top; registers = p .registers }
+
+-- ---- room
+-- the path is in the words, with room for so many instructions
+pub record RoomFor (ws : List ℕ) (path : Path) (left : ℕ) : Type 0 where
+  pub words : workspaceWords ≤ length ws
+  pub path-in : PathIn ws path
+  pub nodes : path .top + 3 * left + goalRoom ≤ mostTableNodes
+  pub assumed : path .assumptions + left ≤ mostAssumptions
+  pub loaded : path .variables + left ≤ 999
+  pub run : path .steps + left ≤ mostInstructions
+  pub within : path .counter + left ≤ mostInstructions
+
+-- the words below the path's next assumption, and its nodes, are as they were
+pub record Kept (ws us : List ℕ) (path : Path) : Type 0 where
+  pub low : Same 0 (slot (path .assumptions)) ws us
+  pub table : Same tableBase (place (path .top)) ws us
+
+-- so many nodes are put above the path's top, and `node` of them has the term t
+pub record Built (ws us : List ℕ) (path : Path) (count node : ℕ) (t : Term) : Type 0 where
+  pub path-in : PathIn us (raisedTo path (path .top + count))
+  pub node-in : NodeIn us (raisedTo path (path .top + count)) node
+  pub means : termAt us node ≡ t
+  pub same : Same 0 (place (path .top)) ws us
+
+-- ---- one instruction
+-- the path `after` has run one instruction more than `path`
+pub record Advanced (us : List ℕ) (path after : Path) : Type 0 where
+  pub path-in : PathIn us after
+  pub counter : after .counter ≡ path .counter + 1
+  pub steps : after .steps ≡ path .steps + 1
+  pub above : path .top ≤ after .top
+  pub nodes : after .top ≤ path .top + 3
+  pub more : path .variables ≤ after .variables
+  pub variables : after .variables ≤ path .variables + 1
+  pub assumptions : after .assumptions ≤ path .assumptions + 1
+
+abbrev pub Leads : (us bytes : List ℕ) (path after : Path) → MovedAnswer → Type 0
+Leads us bytes path after (On q) = Advanced us path after × Reached bytes q
+Leads us bytes path after (Ended q) = Reached bytes q
+Leads us bytes path after (Refused x derived) = Unit {0}
+
+module _ (bytes : List ℕ) (policy : Policy) (routine : Routine) (credit : Term) where
+  -- what follows on a path that goes on
+  abbrev pub landed : (ModelPath → Trace) → ModelPath → Trace
+  landed walks t = landing policy routine credit walks t (annotationAt (routine .annotations) (t .counter))
+
+  -- the checker's answer after an instruction, where `on` follows on the path that goes on, and `rest` after that
+  abbrev pub verdictMoved : MovedAnswer → (on rest : Trace) → Verdict
+  verdictMoved (On q) on rest = judge bytes policy (append on rest) (q .at) (q .goals)
+  verdictMoved (Ended q) on rest = judge bytes policy rest (q .at) (q .goals)
+  verdictMoved (Refused x derived) on rest = refusing x derived
+
+  -- r is what comes of the move m, the path t being the one that goes on, whatever trace follows
+  pub record MoveJudged (m : Move) (p : Progress) (t : ModelPath) (r : MovedAnswer) : Type 0 where
+    pub says : (walks : ModelPath → Trace) (rest : Trace)
+        → judge bytes policy (append (tracing policy routine credit walks m) rest) (p .at) (p .goals) ≡ verdictMoved r (landed walks t) rest
+
+-- what an instruction with the move `what` owes, where policy and routine are as `Where` says
+pub record Moves (ws us bytes : List ℕ) (Where : Policy → Routine → Type 0) (credit : Term) (what : Policy → Routine → Move) (path : Path) (p : Progress) (r : Moved) : Type 0 where
+  pub judged : (policy : Policy) (routine : Routine) → Where policy routine
+      → MoveJudged bytes policy routine credit (what policy routine) p (pathOf us (r .path)) (r .answer)
+  pub kept : Kept ws us path
+  pub leads : Leads us bytes path (r .path) (r .answer)
+
+-- register d takes a node where its term is small enough, and else it is refused
+unfoldable pub assignedAs : Bool → Path → (d node : ℕ) → Progress → Moved
+assignedAs true path d node p = record { path = steppedTo (writtenTo path d node) (path .counter + 1); answer = On p }
+assignedAs false path d node p = record { path = path; answer = Refused (LargeTerm (path .counter)) (p .goals) }
+
+-- the term of an operation
+abbrev pub combined : Operation → Term → Term → Term
+combined Add s t = sum s t
+combined Subtract s t = difference s t
+
+-- the comparison that holds where another does not
+abbrev pub oppositeOf : Comparison → (left right : ℕ) → Assumption
+oppositeOf Equal l r = record { kind = Unequal; left = l; right = r }
+oppositeOf Unequal l r = record { kind = Equal; left = l; right = r }
+oppositeOf Less l r = record { kind = AtMost; left = r; right = l }
+oppositeOf AtMost l r = record { kind = Less; left = r; right = l }
+
+-- what a branch by a comparison of registers a and b owes
+abbrev pub Branches : (ws us bytes : List ℕ) → (Policy → Routine → Type 0) → (credit : Term) → Path → Comparison → (a b target : ℕ) → Progress → Moved → Type 0
+Branches ws us bytes Where credit path kind a b target p r =
+    let x = getD (path .registers) a 0 in
+    let y = getD (path .registers) b 0 in
+    Moves ws us bytes Where credit (λ policy routine. branch policy routine credit (pathOf ws path) target (atomIn ws (record { kind = kind; left = x; right = y })) (atomIn ws (oppositeOf kind x y))) path p r
+
+-- an assignment goes by neither policy, routine nor credit
+abbrev pub Anywhere : Policy → Routine → Type 0
+Anywhere policy routine = Unit {0}
+
+pub record Assigns (ws us : List ℕ) (path : Path) (d : ℕ) (t : Term) (p : Progress) (r : Moved) : Type 0 where
+  pub moves : (bytes : List ℕ) (credit : Term) → Reached bytes p → Moves ws us bytes Anywhere credit (λ _ _. assign (pathOf ws path) d t) path p r
+
+-- an access goes by the policy's regions alone
+pub record Accesses (ws us bytes : List ℕ) (regions : List Region) (m : Move) (path : Path) (p : Progress) (r : Moved) : Type 0 where
+  pub moves : (credit : Term) → Moves ws us bytes (λ policy _. policy .regions ≡ regions) credit (λ _ _. m) path p r
+
+-- a register takes the next variable
+pub record Loads (ws us : List ℕ) (path : Path) (d : ℕ) (p : Progress) (r : Moved) : Type 0 where
+  pub goes-on : r .answer ≡ On p
+  pub means : pathOf us (r .path) ≡ onward (loading (pathOf ws path) d)
+  pub advanced : Advanced us path (r .path)
+  pub same : Same 0 (place (path .top)) ws us
+
+-- ---- arrivals
+-- what comes of a path's goals, as an end of the path
+abbrev pub endedAs : Judged → MovedAnswer
+endedAs (JudgedNext q) = Ended q
+endedAs (JudgedRefused x derived) = Refused x derived
+
+-- the goals of the annotation, if there is one
+abbrev pub ArrivedAs : (bytes : List ℕ) → Policy → (s : ModelPath) (credit : Term) → Option Annotation → Progress → Arrived → Type 0
+ArrivedAs bytes policy s credit note p (At r) = (a : Annotation) × (note ≡ some a) × Judges bytes policy (arrival s credit a) p r
+ArrivedAs bytes policy s credit note p Nowhere = note ≡ none
+
+abbrev pub ReachedThere : List ℕ → Arrived → Type 0
+ReachedThere bytes (At r) = ReachedAfter bytes r
+ReachedThere bytes Nowhere = Unit {0}
+
+pub record Arrives (ws us bytes : List ℕ) (Where : Policy → Routine → Type 0) (credit : Term) (path : Path) (p : Progress) (r : Arrived) : Type 0 where
+  pub judged : (policy : Policy) (routine : Routine) → Where policy routine
+      → ArrivedAs bytes policy (pathOf ws path) credit (annotationAt (routine .annotations) (path .counter)) p r
+  pub kept : Same 0 (place (path .top)) ws us
+  pub reached : ReachedThere bytes r
