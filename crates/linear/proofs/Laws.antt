@@ -10,15 +10,16 @@ use native.Mathlib.Decide.{decLt, ℕ-discrete}
 use lib.ListN.{length, getD, set, length-set}
 use lib.Seq.{getD-set-same, getD-set-other, ext-getD}
 use lib.Dec.{eqb}
+use borrow.Author.Tests.{eqb-true}
 use Rattle.model.specs.Word.{addW, subW}
 use Rattle.model.specs.Term.{Term, constant, variable, sum, difference}
 use Rattle.model.specs.Linear.{variableBound, sameForm}
 use Rattle.terms.specs.Workspace.{tableBase, Same}
-use Rattle.terms.specs.Table.{place, viewOf, termAt, Formed}
+use Rattle.terms.specs.Table.{high, place, marksAt, viewOf, termAt, Formed}
 use Rattle.terms.specs.declared.Node.{Node}
 use Rattle.terms.specs.declared.Node.the-variants.{Constant, Variable, Sum, Difference}
 use Rattle.terms.proofs.Frames.{same-refl, same-within, same-trans}
-use Rattle.terms.proofs.Table.{node-order, node-built, part, term-same, formed-same}
+use Rattle.terms.proofs.Table.{node-order, node-built, part, same-terms, term-same, formed-same}
 use Rattle.linear.specs.Area.{constantWord, areaWords, formAt, signed, Bounded, Accumulated, Cleared, Comparable, allZero, Taken, Emptied}
 use Rattle.linear.specs.Comparison.{comparisonOf}
 use Rattle.linear.proofs.Forms.{signed-zero, constant-here, constant-else, variable-here, variable-else, word-sum, word-difference, zeros-same-form, zero-beyond, same-form-refl}
@@ -164,8 +165,11 @@ emptied {ws} {us} {vs} {n} few room t e s = record {
 }
 
 -- ---- compared
-pub same-node : (ws : List ℕ) {i j : ℕ} → i ≡ j → true ≡ sameForm (termAt ws i) (termAt ws j)
-same-node ws {i} {j} e = rw e (sym (same-form-refl (termAt ws j)))
+-- the same node stands for both
+pub same-twins : {ws : List ℕ} {i j n : ℕ} {r : Bool} → Comparable ws i j n → r ≡ eqb (high (marksAt ws i)) (high (marksAt ws j)) → r ≡ true → (comparisonOf true ≡ comparisonOf (sameForm (termAt ws i) (termAt ws j))) × (ws ≡ ws)
+same-twins {ws} {i} {j} c e h =
+    let t : termAt ws i ≡ termAt ws j = same-terms (c .left .formed) (c .right .formed) (eqb-true (high (marksAt ws i)) (high (marksAt ws j)) (sym e ∙ h)) in
+    (rw (t, same-form-refl (termAt ws j)), refl)
 
 module _ {ws us vs xs : List ℕ} {i j n : ℕ} {r : Bool} (c : Comparable ws i j n) (a : Accumulated ws us false (termAt ws i)) (b : Accumulated us vs true (termAt us j)) (e : Emptied vs xs n r) where
   words : (p : ℕ) → p < areaWords → getD vs p 0 ≡ subW (addW 0 (formAt p (termAt ws i))) (formAt p (termAt ws j))

@@ -89,7 +89,7 @@ pub fn compare(ws: &mut [u32], i: usize, j: usize, variables: usize) -> FormComp
     ensures { λ r. ⌜ r ≡ comparisonOf (sameForm (termAt (now (ws .entry)) i) (termAt (now (ws .entry)) j)) ⌝ }
     ensures { λ _. ⌜ now (ws .exit) ≡ now (ws .entry) ⌝ }
 {
-    if i == j {
+    if terms::twins(ws, i, j) {
         return FormComparison::Same;
     }
     accumulate(ws, i, false);

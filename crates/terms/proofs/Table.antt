@@ -71,6 +71,10 @@ module _ {ws : List ℕ} {i : ℕ} (f : Formed ws (suc i)) where
   pub part : {j : ℕ} → j < i → Formed ws (suc j)
   part h = formed-less _ (omega arith) f
 
+-- nodes for which the same node stands have the same term
+pub same-terms : {ws : List ℕ} {i j : ℕ} → Formed ws (suc i) → Formed ws (suc j) → high (marksAt ws i) ≡ high (marksAt ws j) → termAt ws i ≡ termAt ws j
+same-terms {ws} f g e = sym (beside f .twin) ∙ ap (termAt ws) e ∙ beside g .twin
+
 -- ---- words that keep the table
 module _ {ws us : List ℕ} where
   node-same : (n : ℕ) → Same tableBase (place n) ws us → (i : ℕ) → i < n → viewOf us i ≡ viewOf ws i

@@ -23,7 +23,7 @@ use Rattle.terms.specs.declared.Node.{Node}
 use Rattle.terms.specs.declared.Node.the-variants.{Constant, Variable, Sum, Difference}
 use Rattle.terms.proofs.Node.{enum}
 use Rattle.terms.proofs.Frames.{same-refl, set-before}
-use Rattle.terms.proofs.Table.{node-built, beside}
+use Rattle.terms.proofs.Table.{node-built, beside, same-terms}
 
 -- ---- what marks say
 tag-bound : (t : Term) → tagOfTerm t < 4
@@ -266,7 +266,7 @@ apart f (Difference a b) (Difference c d) h = absurd (h refl)
 
 -- the same node stands for both
 pub same-twin : {ws : List ℕ} {i j : ℕ} → Formed ws (suc i) → Formed ws (suc j) → high (marksAt ws i) ≡ high (marksAt ws j) → true ≡ eqTerm (termAt ws i) (termAt ws j)
-same-twin {ws} {i} {j} f g e = let t : termAt ws i ≡ termAt ws j = sym (beside f .twin) ∙ ap (termAt ws) e ∙ beside g .twin in rw t (sym (eqTerm-refl (termAt ws j)))
+same-twin {ws} {i} {j} f g e = rw (same-terms f g e) (sym (eqTerm-refl (termAt ws j)))
 
 -- terms with different facts
 pub same-facts : {ws : List ℕ} {i j : ℕ} → Formed ws (suc i) → Formed ws (suc j) → low (marksAt ws i) ≢ low (marksAt ws j) → false ≡ eqTerm (termAt ws i) (termAt ws j)
