@@ -17,7 +17,7 @@ use Rattle.linear.specs.Area.{formIf, formAt, signed, allZero, constantW
 
 -- ---- words modulo 2^32
 -- the word that gives w when x is added to it is their difference
-sub-only : (r w x : ℕ) → r < 2 ^ 32 → x < 2 ^ 32 → r + x ≈ w → r ≡ subW w x
+pub sub-only : (r w x : ℕ) → r < 2 ^ 32 → x < 2 ^ 32 → r + x ≈ w → r ≡ subW w x
 sub-only r w x h k e = same-word (add-cancel r (subW w x) x (e ∙ sym (sub-plain w x k))) h (sub-below w x)
 
 sum-taken : (r s w a b c : ℕ) → r + b ≈ s → s + a ≈ w → c ≈ a + b → r + c ≈ w
@@ -71,7 +71,7 @@ coefficient-word v (variable w) = elim (eqb v w) as (λ b. (elim b as (λ _. ℕ
 coefficient-word v (sum s t) = omega arith
 coefficient-word v (difference s t) = omega arith
 
-form-word : (k : ℕ) (t : Term) → formAt k t < 2 ^ 32
+pub form-word : (k : ℕ) (t : Term) → formAt k t < 2 ^ 32
 unfolding formAt
 form-word k t = go (ltb k constantWord)
   where
@@ -80,11 +80,11 @@ form-word k t = go (ltb k constantWord)
     go false = constant-word t
 
 -- ---- the words of a form
-form-coefficient : (k : ℕ) (t : Term) → k < constantWord → formAt k t ≡ coefficientOf k t
+pub form-coefficient : (k : ℕ) (t : Term) → k < constantWord → formAt k t ≡ coefficientOf k t
 unfolding formAt
 form-coefficient k t h = rw (lt-ltb k constantWord h, formAt)
 
-form-constant : (t : Term) → formAt constantWord t ≡ constantOf t
+pub form-constant : (t : Term) → formAt constantWord t ≡ constantOf t
 unfolding formAt
 form-constant t = refl
 
@@ -111,7 +111,7 @@ variable-else k v n = go (ltb k constantWord)
     go false = refl
 
 module _ (k : ℕ) (p q : Term) where
-  form-sum : formAt k (sum p q) ≡ addW (formAt k p) (formAt k q)
+  pub form-sum : formAt k (sum p q) ≡ addW (formAt k p) (formAt k q)
   unfolding formAt constantOf coefficientOf
   form-sum = go (ltb k constantWord)
     where
@@ -119,7 +119,7 @@ module _ (k : ℕ) (p q : Term) where
       go true = refl
       go false = refl
 
-  form-difference : formAt k (difference p q) ≡ subW (formAt k p) (formAt k q)
+  pub form-difference : formAt k (difference p q) ≡ subW (formAt k p) (formAt k q)
   unfolding formAt constantOf coefficientOf
   form-difference = go (ltb k constantWord)
     where
@@ -140,7 +140,7 @@ and-true : (b : Bool) → (b && true) ≡ b
 and-true true = refl
 and-true false = refl
 
-coefficient-beyond : (v : ℕ) (t : Term) → variableBound t ≤ v → coefficientOf v t ≡ 0
+pub coefficient-beyond : (v : ℕ) (t : Term) → variableBound t ≤ v → coefficientOf v t ≡ 0
 unfolding coefficientOf variableBound addW subW
 coefficient-beyond v (constant c) h = refl
 coefficient-beyond v (variable w) h = rw (ne-eqb v w (omega arith), coefficientOf)

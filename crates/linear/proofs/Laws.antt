@@ -11,7 +11,6 @@ use lib.ListN.{length, getD, set, length-set}
 use lib.Seq.{getD-set-same, getD-set-other, ext-getD}
 use lib.Dec.{eqb}
 use borrow.Author.Tests.{eqb-true}
-use Rattle.model.specs.Word.{addW, subW}
 use Rattle.model.specs.Term.{Term, constant, variable, sum, difference}
 use Rattle.model.specs.Linear.{variableBound, sameForm}
 use Rattle.terms.specs.Workspace.{tableBase, Same}
@@ -21,6 +20,7 @@ use Rattle.terms.specs.declared.Node.the-variants.{Constant, Variable, Sum, Dif
 use Rattle.terms.proofs.Frames.{same-refl, same-within, same-trans}
 use Rattle.terms.proofs.Table.{node-order, node-built, part, same-terms, term-same, formed-same}
 use Rattle.linear.specs.Area.{constantWord, areaWords, formAt, signed, Bounded, Accumulated, Cleared, Comparable, allZero, Taken, Emptied}
+use Rattle.linear.specs.Weights.{Reckoned}
 use Rattle.linear.specs.Comparison.{comparisonOf}
 use Rattle.linear.proofs.Forms.{signed-zero, constant-here, constant-else, variable-here, variable-else, word-sum, word-difference, zeros-same-form, zero-beyond, same-form-refl}
 
@@ -102,12 +102,15 @@ changed {ws} {us} {n} t p x h room e words here else = record {
     go k l (no m) = rw (else k l m) (getD-set-other ws p k _ 0 m ∙ signed-zero n (getD ws k 0) (words k))
 
 -- where one term's form is accumulated after another's
+above-both : {ws us vs : List ℕ} {m o : Bool} {p q : Term} → Accumulated ws us m p → Accumulated us vs o q → Same areaWords (length ws) ws vs
+above-both {ws} a b = same-trans (a .above) (same-within areaWords (length ws) (omega arith) (omega (arith, a .long)) (b .above))
+
 accumulated-both : {ws us vs : List ℕ} {m o : Bool} {p q : Term} (n : Bool) (t : Term) → Accumulated ws us m p → Accumulated us vs o q
     → ((k : ℕ) → k < areaWords → getD vs k 0 ≡ signed n (getD ws k 0) (formAt k t))
     → Accumulated ws vs n t
-accumulated-both {ws} n t a b w = record {
+accumulated-both n t a b w = record {
   area = w;
-  above = same-trans (a .above) (same-within areaWords (length ws) (omega arith) (omega (arith, a .long)) (b .above));
+  above = above-both a b;
   long = b .long ∙ a .long;
 }
 
@@ -171,21 +174,30 @@ same-twins {ws} {i} {j} c e h =
     let t : termAt ws i ≡ termAt ws j = same-terms (c .left .formed) (c .right .formed) (eqb-true (high (marksAt ws i)) (high (marksAt ws j)) (sym e ∙ h)) in
     (rw (t, same-form-refl (termAt ws j)), refl)
 
-module _ {ws us vs xs : List ℕ} {i j n : ℕ} {r : Bool} (c : Comparable ws i j n) (a : Accumulated ws us false (termAt ws i)) (b : Accumulated us vs true (termAt us j)) (e : Emptied vs xs n r) where
-  words : (p : ℕ) → p < areaWords → getD vs p 0 ≡ subW (addW 0 (formAt p (termAt ws i))) (formAt p (termAt ws j))
-  words p l = b .area p l ∙ rw (a .area p l, c .cleared .word p l, term-kept a (c .right .formed))
+-- every variable below the constant's word may stand in the terms
+pub comparable-most : {ws : List ℕ} {i j n : ℕ} → Comparable ws i j n → Comparable ws i j constantWord
+comparable-most c = record { few = omega arith; left = bounded-more constantWord (c .few) (c .left); right = bounded-more constantWord (c .few) (c .right); cleared = c .cleared }
 
-  pub answered : r ≡ sameForm (termAt ws i) (termAt ws j)
-  answered = e .is ∙ zeros-same-form (termAt ws i) (termAt ws j) vs words n (c .few) (c .left .within) (c .right .within)
+-- the terms walked as trees
+pub reckoned-trees : {ws us vs : List ℕ} {i j : ℕ} → Comparable ws i j constantWord → Accumulated ws us false (termAt ws i) → Accumulated us vs true (termAt us j) → Reckoned ws vs (termAt ws i) (termAt ws j)
+reckoned-trees c a b = record {
+  area = λ p l. b .area p l ∙ rw (a .area p l, c .cleared .word p l, term-kept a (c .right .formed));
+  above = above-both a b;
+  long = b .long ∙ a .long;
+}
 
-  pub restored : xs ≡ ws
-  restored = ext-getD 0 xs ws (e .long ∙ b .long ∙ a .long) (λ p l. go p (omega (arith, e .long, b .long, a .long)) (decLt p n) (decLt p constantWord) (ℕ-discrete p constantWord))
+module _ {ws vs xs : List ℕ} {i j n : ℕ} {r : Bool} (c : Comparable ws i j n) (a : Reckoned ws vs (termAt ws i) (termAt ws j)) (e : Emptied vs xs n r) where
+  answered : r ≡ sameForm (termAt ws i) (termAt ws j)
+  answered = e .is ∙ zeros-same-form (termAt ws i) (termAt ws j) vs (a .area) n (c .few) (c .left .within) (c .right .within)
+
+  restored : xs ≡ ws
+  restored = ext-getD 0 xs ws (e .long ∙ a .long) (λ p l. go p (omega (arith, e .long, a .long)) (decLt p n) (decLt p constantWord) (ℕ-discrete p constantWord))
     where
       go : (p : ℕ) → p < length ws → Dec (p < n) → Dec (p < constantWord) → Dec (p ≡ constantWord) → getD xs p 0 ≡ getD ws p 0
-      go p l (yes m) d f = e .zeros p m ∙ sym (c .cleared .word p (omega arith))
-      go p l (no m) (yes d) f = e .others p (omega arith) (omega (arith, b .long, a .long)) (omega arith) ∙ zero-beyond (termAt ws i) (termAt ws j) vs words n (c .few) (c .left .within) (c .right .within) p (omega arith) d ∙ sym (c .cleared .word p (omega arith))
+      go p l (yes m) d f = e .zeros p m ∙ sym (c .cleared .word p (omega (arith, c .few)))
+      go p l (no m) (yes d) f = e .others p (omega arith) (omega (arith, a .long)) (omega arith) ∙ zero-beyond (termAt ws i) (termAt ws j) vs (a .area) n (c .few) (c .left .within) (c .right .within) p (omega arith) d ∙ sym (c .cleared .word p (omega arith))
       go p l (no m) (no d) (yes f) = rw f (e .constant ∙ sym (c .cleared .word constantWord (omega arith)))
-      go p l (no m) (no d) (no f) = e .others p (omega arith) (omega (arith, b .long, a .long)) f ∙ b .above .word p (omega arith) (omega (arith, a .long)) ∙ a .above .word p (omega arith) l
+      go p l (no m) (no d) (no f) = e .others p (omega arith) (omega (arith, a .long)) f ∙ a .above .word p (omega arith) l
 
   pub compared : {q : Bool} → r ≡ q → (comparisonOf q ≡ comparisonOf (sameForm (termAt ws i) (termAt ws j))) × (xs ≡ ws)
   compared d = (ap comparisonOf (sym d ∙ answered), restored)

@@ -15,7 +15,7 @@ use Rattle.model.specs.Term.{Term, constant, variable, sum, difference, eval, s
 use Rattle.model.proofs.Terms.{same-term, and-left, and-right}
 use Rattle.terms.specs.Workspace.{mostVariables, hintBase, Same}
 use Rattle.terms.specs.Closed.{closedValue}
-use Rattle.terms.specs.Table.{low, high, partsAt, valueAt, marksAt, nodeOfTag, viewOf, build, termAt, termOf, tagOfTerm, bit, capped, factsOf, valueOf, InOrder, Known, Formed, Put, Fits, Twinned}
+use Rattle.terms.specs.Table.{low, high, partsAt, valueAt, marksAt, closedAt, nodeOfTag, viewOf, build, termAt, termOf, tagOfTerm, bit, capped, factsOf, valueOf, InOrder, Known, Formed, Put, Fits, Twinned}
 use Rattle.terms.specs.Reader.{operationOf}
 use Rattle.terms.specs.declared.Closed.{Closed}
 use Rattle.terms.specs.declared.Closed.the-variants.{Value, Open}
@@ -70,12 +70,25 @@ module _ (m : ℕ) (t : Term) (e : low m ≡ factsOf t) where
   unfolding factsOf
   size-in = omega (arith, e, tag-bound t, bit-bound (closed t))
 
-  pub small-of : leb (low m / 8) 255 ≡ leb (size t) 255
-  small-of = rw size-in (go (decLt 255 (size t)))
+  pub size-most : (n : ℕ) → n < 256 → leb (low m / 8) n ≡ leb (size t) n
+  size-most n l = rw size-in (go (decLt n (size t)))
     where
-      go : Dec (255 < size t) → leb (capped (size t)) 255 ≡ leb (size t) 255
-      go (yes h) = rw (lt-leb (capped (size t)) 255 (omega arith), lt-leb (size t) 255 h)
-      go (no h) = rw (le-leb (capped (size t)) 255 (omega arith), le-leb (size t) 255 (omega arith))
+      go : Dec (n < size t) → leb (capped (size t)) n ≡ leb (size t) n
+      go (yes h) = rw (lt-leb (capped (size t)) n (omega arith), lt-leb (size t) n h)
+      go (no h) = rw (le-leb (capped (size t)) n (omega arith), le-leb (size t) n (omega arith))
+
+bit-is : (b : Bool) → eqb (bit b) 1 ≡ b
+bit-is true = refl
+bit-is false = refl
+
+module _ {ws : List ℕ} {i : ℕ} (k : Known ws i) where
+  pub closed-at : closedAt ws i ≡ closed (termAt ws i)
+  closed-at = rw (closed-bit (marksAt ws i) (termAt ws i) (k .facts)) (bit-is (closed (termAt ws i)))
+
+  -- an open node's value is 0
+  pub open-zero : closedAt ws i ≡ false → valueAt ws i ≡ 0
+  unfolding valueOf
+  open-zero h = k .value ∙ rw (sym closed-at ∙ h) (omega arith)
 
 -- ---- closed terms
 module _ (t : Term) where

@@ -5,6 +5,7 @@ use mathlib.Core.Bool.{Bool, true, false}
 use mathlib.Core.List.{List, [], _∷_, _++_}
 use Prim.Native.Nat.{ℕ, zero, suc, _+_, _-_, _*_, _/_, _%_, _<_, _≤_}
 use lib.ListN.{length, getD}
+use lib.Dec.{eqb}
 use Rattle.model.specs.Term.{Term, constant, variable, sum, difference, eval, size, closed}
 use Rattle.terms.specs.Workspace.{workspaceWords, mostVariables, tableBase, mostTableNodes, hintBase, Same}
 use Rattle.terms.specs.declared.Node.{Node}
@@ -30,6 +31,10 @@ valueAt ws i = getD ws (place i + 1) 0
 
 abbrev pub marksAt : List ℕ → ℕ → ℕ
 marksAt ws i = getD ws (place i + 2) 0
+
+-- whether node i is closed, by its marks
+abbrev pub closedAt : List ℕ → ℕ → Bool
+closedAt ws i = eqb (marksAt ws i / 4 % 2) 1
 
 -- the node that a tag, parts and a value say
 abbrev pub nodeOfTag : (tag parts value : ℕ) → Node

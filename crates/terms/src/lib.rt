@@ -6,11 +6,11 @@ pub mod reader;
 ghost use mathlib.Core.Path.{_≡_};
 ghost use mathlib.Core.Bool.{_&&_};
 ghost use Prim.Native.Nat.{suc, _+_, _-_, _*_, _/_, _%_, _≤_, _<_};
-ghost use lib.ListN.{length};
+ghost use lib.ListN.{length, set};
 ghost use lib.Dec.{eqb, leb};
 ghost use Rattle.model.specs.Term.{constant, variable, sum, difference, eqTerm, size as sizeOf};
 ghost use Rattle.terms.specs.Workspace.{mostVariables, hintBase, hints, stored};
-ghost use Rattle.terms.specs.Table.{low as lowOf, high as highOf, partsAt, valueAt, marksAt, viewOf, termAt, termOf, capped, valueOf, factsOf, place, Formed, Space, Put, Fits, Twinned};
+ghost use Rattle.terms.specs.Table.{low as lowOf, high as highOf, partsAt, valueAt, marksAt, closedAt, viewOf, termAt, termOf, capped, valueOf, factsOf, place, Formed, Space, Put, Fits, Twinned};
 ghost use Rattle.terms.specs.Reader.{operationOf};
 ghost use Rattle.terms.specs.Closed.{closedValue};
 
@@ -52,18 +52,26 @@ fn high(w: u32) -> usize
 
 // The marks of node i.
 fn marks(ws: &[u32], i: usize) -> u32
-    requires { ⌜ Formed (now ws) (suc i) ⌝ }
+    requires { ⌜ place (suc i) ≤ length (now ws) ⌝ }
     ensures { λ r. ⌜ r ≡ marksAt (now (ws .entry)) i ⌝ }
 {
     ws[TABLE + 3 * i + 2]
 }
 
-// The value of node i: 0 where it is not closed.
-fn value(ws: &[u32], i: usize) -> u32
-    requires { ⌜ Formed (now ws) (suc i) ⌝ }
+// The value of node i.
+pub fn value(ws: &[u32], i: usize) -> u32
+    requires { ⌜ place (suc i) ≤ length (now ws) ⌝ }
     ensures { λ r. ⌜ r ≡ valueAt (now (ws .entry)) i ⌝ }
 {
     ws[TABLE + 3 * i + 1]
+}
+
+// Sets the value of node i.
+pub fn set_value(ws: &mut [u32], i: usize, value: u32)
+    requires { ⌜ place (suc i) ≤ length (now ws) ⌝ }
+    ensures { λ _. ⌜ now (ws .exit) ≡ set (now (ws .entry)) (place i + 1) value ⌝ }
+{
+    ws[TABLE + 3 * i + 1] = value;
 }
 
 // 1 for the marks of a closed term, 0 for others.
@@ -80,9 +88,17 @@ fn size(marks: u32) -> u32
     low(marks) / 8
 }
 
-// Node i.
-pub fn view(ws: &[u32], i: usize) -> Node
-    requires { ⌜ Formed (now ws) (suc i) ⌝ }
+// Whether node i holds a value: its term is closed, by its marks.
+pub fn holds_value(ws: &[u32], i: usize) -> bool
+    requires { ⌜ place (suc i) ≤ length (now ws) ⌝ }
+    ensures { λ r. ⌜ r ≡ closedAt (now (ws .entry)) i ⌝ }
+{
+    is_closed(marks(ws, i)) == 1
+}
+
+// Node i, in words that need not be a table.
+pub fn node_at(ws: &[u32], i: usize) -> Node
+    requires { ⌜ place (suc i) ≤ length (now ws) ⌝ }
     ensures { λ r. ⌜ r ≡ viewOf (now (ws .entry)) i ⌝ }
 {
     let at = TABLE + 3 * i;
@@ -95,6 +111,14 @@ pub fn view(ws: &[u32], i: usize) -> Node
         2 => Node::Sum(fields::wide(low(parts)), high(parts)),
         _ => Node::Difference(fields::wide(low(parts)), high(parts)),
     }
+}
+
+// Node i of the table.
+pub fn view(ws: &[u32], i: usize) -> Node
+    requires { ⌜ Formed (now ws) (suc i) ⌝ }
+    ensures { λ r. ⌜ r ≡ viewOf (now (ws .entry)) i ⌝ }
+{
+    node_at(ws, i)
 }
 
 // ---- new nodes
@@ -340,10 +364,19 @@ pub fn evaluate(ws: &[u32], i: usize) -> Closed
     }
 }
 
+// Whether node i's term has at most so many nodes, below 256.
+pub fn at_most(ws: &[u32], i: usize, nodes: u32) -> bool
+    requires { ⌜ Formed (now ws) (suc i) ⌝ }
+    requires { ⌜ nodes < 256 ⌝ }
+    ensures { λ r. ⌜ r ≡ leb (sizeOf (termAt (now (ws .entry)) i)) nodes ⌝ }
+{
+    size(marks(ws, i)) <= nodes
+}
+
 // Whether node i's term has at most 255 nodes.
 pub fn small(ws: &[u32], i: usize) -> bool
     requires { ⌜ Formed (now ws) (suc i) ⌝ }
     ensures { λ r. ⌜ r ≡ leb (sizeOf (termAt (now (ws .entry)) i)) 255 ⌝ }
 {
-    size(marks(ws, i)) <= 255
+    at_most(ws, i, 255)
 }

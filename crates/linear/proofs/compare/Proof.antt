@@ -1,4 +1,4 @@
-use Rattle.linear.proofs.Laws.{same-twins, bounded-more, bounded-kept, compared}
+use Rattle.linear.proofs.Laws.{same-twins, comparable-most, compared}
 use borrow.Author.Needs.{needs}
 use Rattle.linear.proofs.compare.Statement.{statement}
 use Rattle.linear.proofs.compare.Tie as tie
@@ -12,11 +12,8 @@ same-length c = search needs
 returns : tie.Need-returns
 returns c = same-twins (c .before .before .before .before .pre) (c .before .twins .ensures) (c .if1 .taken)
 
-accumulate-requires : tie.Need-accumulate-requires
-accumulate-requires c κs = bounded-more _ (c .before .before .before .before .before .pre .few) (c .before .before .before .before .before .pre .left)
-
-accumulate-requires-2 : tie.Need-accumulate-requires-2
-accumulate-requires-2 c κs = bounded-kept (c .before .before .before .accumulate .ensures) (bounded-more _ (c .before .before .before .before .before .before .before .before .before .pre .few) (c .before .before .before .before .before .before .before .before .before .pre .right))
+reckon-requires : tie.Need-reckon-requires
+reckon-requires c κs = comparable-most (c .before .before .before .before .before .pre)
 
 empty-requires : tie.Need-empty-requires
 empty-requires c κs = search needs
@@ -25,13 +22,13 @@ same-length-2 : tie.Need-same-length-2
 same-length-2 c = search needs
 
 returns-2 : tie.Need-returns-2
-returns-2 c = compared (c .before .before .before .before .before .before .before .before .before .before .before .before .before .before .before .before .before .pre) (c .before .before .before .before .before .before .before .before .before .before .before .accumulate .ensures) (c .before .before .before .before .before .before .before .accumulate2 .ensures) (c .before .before .before .empty .ensures) (c .if2 .taken)
+returns-2 c = compared (c .before .before .before .before .before .before .before .before .before .before .before .before .before .pre) (c .before .before .before .before .before .before .before .reckon .ensures) (c .before .before .before .empty .ensures) (c .if2 .taken)
 
 same-length-3 : tie.Need-same-length-3
 same-length-3 c = search needs
 
 returns-3 : tie.Need-returns-3
-returns-3 c = compared (c .before .before .before .before .before .before .before .before .before .before .before .before .before .before .before .before .before .pre) (c .before .before .before .before .before .before .before .before .before .before .before .accumulate .ensures) (c .before .before .before .before .before .before .before .accumulate2 .ensures) (c .before .before .before .empty .ensures) (c .if2 .left)
+returns-3 c = compared (c .before .before .before .before .before .before .before .before .before .before .before .before .before .pre) (c .before .before .before .before .before .before .before .reckon .ensures) (c .before .before .before .empty .ensures) (c .if2 .left)
 
 pub compare-spec : {M : Type 1} → statement M
 compare-spec =
@@ -40,8 +37,7 @@ compare-spec =
     twins-requires
     same-length
     returns
-    accumulate-requires
-    accumulate-requires-2
+    reckon-requires
     empty-requires
     same-length-2
     returns-2

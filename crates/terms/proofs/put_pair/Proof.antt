@@ -4,13 +4,12 @@ use native.Mathlib.Omega.{arith}
 use borrow.Author.Needs.{needs}
 use Rattle.terms.proofs.put_pair.Statement.{statement}
 use Rattle.terms.proofs.put_pair.Tie as tie
-use Rattle.terms.proofs.put_pair.Reads as reads
 
 marks-requires : tie.Need-marks-requires
-marks-requires c κs = formed-less _ (omega arith) (c .before .before .pre .0)
+marks-requires c κs = search needs
 
 marks-requires-2 : tie.Need-marks-requires-2
-marks-requires-2 c κs = formed-less _ (omega arith) (c .before .before .before .before .pre .0)
+marks-requires-2 c κs = search needs
 
 computed-requires : tie.Need-computed-requires
 computed-requires c κs = (formed-less _ (omega arith) (c .before .before .before .before .before .before .pre .0), (formed-less _ (omega arith) (c .before .before .before .before .before .before .pre .0), c .before .before .before .before .before .before .pre .1 .1 .1))

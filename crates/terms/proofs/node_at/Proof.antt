@@ -2,9 +2,8 @@ use mathlib.Core.Path.{sym}
 use Rattle.terms.specs.Table.{viewOf}
 use Rattle.terms.proofs.Table.{other-tag}
 use borrow.Author.Needs.{needs}
-use Rattle.terms.proofs.view.Statement.{statement}
-use Rattle.terms.proofs.view.Tie as tie
-use Rattle.terms.proofs.view.Reads as reads
+use Rattle.terms.proofs.node_at.Statement.{statement}
+use Rattle.terms.proofs.node_at.Tie as tie
 
 mul-at : tie.Need-mul-at
 mul-at c = search needs
@@ -70,8 +69,8 @@ returns-4 : tie.Need-returns-4
 unfolding viewOf
 returns-4 c = rw (c .before .wide2 .ensures, c .before .before .low2 .ensures .0, c .high2 .ensures .0) (sym (other-tag _ _ _ (c .before .before .before .match .rest .0 .0 .1) (c .before .before .before .match .rest .0 .1) (c .before .before .before .match .rest .1)))
 
-pub view-spec : {M : Type 1} → statement M
-view-spec =
+pub node-at-spec : {M : Type 1} → statement M
+node-at-spec =
     tie.close
     (tie.spec
     mul-at

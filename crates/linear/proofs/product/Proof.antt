@@ -1,0 +1,17 @@
+use Rattle.linear.proofs.Weights.{product-fits}
+use native.Mathlib.Omega.{arith}
+use borrow.Author.Needs.{needs}
+use Rattle.linear.proofs.product.Statement.{statement}
+use Rattle.linear.proofs.product.Tie as tie
+
+mul-result : tie.Need-mul-result
+mul-result c = omega (arith, product-fits (c .args .a) (c .args .b) (omega arith) (omega arith))
+
+cast-result : tie.Need-cast-result
+cast-result c = search needs
+
+returns : tie.Need-returns
+returns c = search needs
+
+pub product-spec : {M : Type 1} → statement M
+product-spec = tie.close (tie.spec mul-result cast-result returns)
