@@ -1,4 +1,4 @@
--- Laws of the derivation checker: one for each way out, and one for each premise that is derived. Assumes nothing.
+-- Laws of the derivation checker: one for each way out, and one for a premise that is derived. Assumes nothing.
 use mathlib.Core.Path.{_≡_, refl, sym, ap, subst, _∙_}
 use mathlib.Core.List.{List, [], _∷_}
 use Prim.Native.Nat.{ℕ, zero, suc, _-_, _*_, _<_, _≤_}

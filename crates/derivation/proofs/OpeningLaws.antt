@@ -12,7 +12,7 @@ use lib.Dec.{eqb, leb, lit<}
 use lib.ListN.{length, getD, getElem?}
 use borrow.Author.Tests.{ne-eqb, le-leb, lt-leb}
 use denote.Enum.Declared.{tagOf as variant, declared}
-use Rattle.model.specs.Result.{stop, value, _>>=_, check, stopAs}
+use Rattle.model.specs.Result.{Result, stop, value, _>>=_, check, found, stopAs}
 use Rattle.model.specs.Word.{le16}
 use Rattle.model.specs.Term.{Term}
 use Rattle.model.specs.Field.{byteAt, halfAt}
@@ -110,40 +110,22 @@ module _ {n : ℕ} where
 clash : {A : Type 0} {f g : Form} → f ≡ g → (variant (declared enum) f ≡ variant (declared enum) g → ⊥) → A
 clash e k = absurd (k (ap (variant (declared enum)) e))
 
-row-plain : (o : Option Format) → Plain ≡ formOf o → (rule : Rule) × (o ≡ some (plain rule))
-row-plain none e = clash e (omega arith)
-row-plain (some (plain rule)) e = (rule, refl)
-row-plain (some (with-index rule)) e = clash e (omega arith)
-row-plain (some (with-term rule)) e = clash e (omega arith)
-row-plain (some (with-region rule)) e = clash e (omega arith)
+abbrev RowOf : Form → Option Format → Type 0
+RowOf Plain o = (rule : Rule) × (o ≡ some (plain rule))
+RowOf Index o = (rule : ℕ → Rule) × (o ≡ some (with-index rule))
+RowOf Argument o = (rule : Term → Rule) × (o ≡ some (with-term rule))
+RowOf Region o = (rule : ℕ → Rule) × (o ≡ some (with-region rule))
+RowOf Unknown o = o ≡ none
 
-row-index : (o : Option Format) → Index ≡ formOf o → (rule : ℕ → Rule) × (o ≡ some (with-index rule))
-row-index none e = clash e (omega arith)
-row-index (some (plain rule)) e = clash e (omega arith)
-row-index (some (with-index rule)) e = (rule, refl)
-row-index (some (with-term rule)) e = clash e (omega arith)
-row-index (some (with-region rule)) e = clash e (omega arith)
+row : (o : Option Format) → RowOf (formOf o) o
+row none = refl
+row (some (plain rule)) = (rule, refl)
+row (some (with-index rule)) = (rule, refl)
+row (some (with-term rule)) = (rule, refl)
+row (some (with-region rule)) = (rule, refl)
 
-row-argument : (o : Option Format) → Argument ≡ formOf o → (rule : Term → Rule) × (o ≡ some (with-term rule))
-row-argument none e = clash e (omega arith)
-row-argument (some (plain rule)) e = clash e (omega arith)
-row-argument (some (with-index rule)) e = clash e (omega arith)
-row-argument (some (with-term rule)) e = (rule, refl)
-row-argument (some (with-region rule)) e = clash e (omega arith)
-
-row-region : (o : Option Format) → Region ≡ formOf o → (rule : ℕ → Rule) × (o ≡ some (with-region rule))
-row-region none e = clash e (omega arith)
-row-region (some (plain rule)) e = clash e (omega arith)
-row-region (some (with-index rule)) e = clash e (omega arith)
-row-region (some (with-term rule)) e = clash e (omega arith)
-row-region (some (with-region rule)) e = (rule, refl)
-
-row-unknown : (o : Option Format) → Unknown ≡ formOf o → o ≡ none
-row-unknown none e = refl
-row-unknown (some (plain rule)) e = clash e (omega arith)
-row-unknown (some (with-index rule)) e = clash e (omega arith)
-row-unknown (some (with-term rule)) e = clash e (omega arith)
-row-unknown (some (with-region rule)) e = clash e (omega arith)
+row-of : (n : ℕ) (form : Form) → form ≡ formOf (getElem? rules n) → RowOf form (getElem? rules n)
+row-of n form e = subst (λ f. RowOf f (getElem? rules n)) (sym e) (row (getElem? rules n))
 
 -- a row that is there
 known-row : (n : ℕ) {f : Form} → f ≡ formOf (getElem? rules n) → (f ≡ Unknown → ⊥) → n < length rules
@@ -172,58 +154,51 @@ module _ (bytes : List ℕ) where
   half-there p h e = rw (le-leb (p + 2) (length bytes) h, halfAt) (ap value e)
 
 -- ---- the answers, a rule byte being there
+module _ {bytes : List ℕ} {number at : ℕ} {form : Form} (b : Begun bytes number at form) where
+  -- what stands in the row of its rule
+  at-row : {A : Type 0} (f : Format → Result Refusal A) {row : Format} {x : Result Refusal A} → getElem? rules number ≡ some row → x ≡ f row
+      → x ≡ (proofField bytes (byteAt bytes (length bytes) at) >>= λ n. found (getElem? rules n) (UnfitRule at) >>= f)
+  at-row f e h = goes-on _ (byte-there bytes at (b .there) (b .is)) (goes-on f (is-found (UnfitRule at) e) h)
+
 module _ {bytes : List ℕ} {number at : ℕ} (us : List ℕ) (variables : ℕ) where
   opened-plain : Begun bytes number at Plain → (v : ℕ) → value (ruleOf us number v, at + 1) ≡ ruleAt bytes variables at
   unfolding ruleAt ruleOf
-  opened-plain b v =
-      let (rule, e) = row-plain (getElem? rules number) (b .kind) in
-      goes-on _ (byte-there bytes at (b .there) (b .is)) (goes-on _ (is-found (UnfitRule at) e) (ap (λ o. value (ruleIn us v o, at + 1)) e))
+  opened-plain b v = let (rule, e) = row-of number Plain (b .kind) in at-row b _ e (ap (λ o. value (ruleIn us v o, at + 1)) e)
 
   opened-unknown : Begun bytes number at Unknown → stop (UnfitRule at) ≡ ruleAt bytes variables at
   unfolding ruleAt
-  opened-unknown b = goes-on _ (byte-there bytes at (b .there) (b .is)) (stops _ (not-found (UnfitRule at) (row-unknown (getElem? rules number) (b .kind))))
+  opened-unknown b = goes-on _ (byte-there bytes at (b .there) (b .is)) (stops _ (not-found (UnfitRule at) (row-of number Unknown (b .kind))))
 
   module _ (b : Begun bytes number at Index) where
     opened-index-missing : length bytes - at < 3 → stop (ProofExhausted (length bytes)) ≡ ruleAt bytes variables at
     unfolding ruleAt
-    opened-index-missing h =
-        let (rule, e) = row-index (getElem? rules number) (b .kind) in
-        goes-on _ (byte-there bytes at (b .there) (b .is)) (goes-on _ (is-found (UnfitRule at) e) (stops _ (half-missing bytes (at + 1) (omega (arith, b .there)))))
+    opened-index-missing h = let (rule, e) = row-of number Index (b .kind) in at-row b _ e (stops _ (half-missing bytes (at + 1) (omega (arith, b .there))))
 
     opened-index : {v : ℕ} → 3 ≤ length bytes - at → v ≡ le16 bytes (at + 1) → value (ruleOf us number v, at + 3) ≡ ruleAt bytes variables at
     unfolding ruleAt ruleOf
     opened-index {v} h k =
-        let (rule, e) = row-index (getElem? rules number) (b .kind) in
-        goes-on _ (byte-there bytes at (b .there) (b .is))
-        (goes-on _ (is-found (UnfitRule at) e) (goes-on _ (half-there bytes (at + 1) (omega (arith, b .there)) k) (ap (λ o. value (ruleIn us v o, at + 3)) e)))
+        let (rule, e) = row-of number Index (b .kind) in
+        at-row b _ e (goes-on _ (half-there bytes (at + 1) (omega (arith, b .there)) k) (ap (λ o. value (ruleIn us v o, at + 3)) e))
 
   module _ (b : Begun bytes number at Region) where
     opened-region-missing : length bytes - at < 2 → stop (ProofExhausted (length bytes)) ≡ ruleAt bytes variables at
     unfolding ruleAt
-    opened-region-missing h =
-        let (rule, e) = row-region (getElem? rules number) (b .kind) in
-        goes-on _ (byte-there bytes at (b .there) (b .is)) (goes-on _ (is-found (UnfitRule at) e) (stops _ (byte-missing bytes (at + 1) (omega (arith, b .there)))))
+    opened-region-missing h = let (rule, e) = row-of number Region (b .kind) in at-row b _ e (stops _ (byte-missing bytes (at + 1) (omega (arith, b .there))))
 
     opened-region : {v : ℕ} → 2 ≤ length bytes - at → v ≡ getD bytes (at + 1) 0 → value (ruleOf us number v, at + 2) ≡ ruleAt bytes variables at
     unfolding ruleAt ruleOf
     opened-region {v} h k =
-        let (rule, e) = row-region (getElem? rules number) (b .kind) in
-        goes-on _ (byte-there bytes at (b .there) (b .is))
-        (goes-on _ (is-found (UnfitRule at) e) (goes-on _ (byte-there bytes (at + 1) (omega (arith, b .there)) k) (ap (λ o. value (ruleIn us v o, at + 2)) e)))
+        let (rule, e) = row-of number Region (b .kind) in
+        at-row b _ e (goes-on _ (byte-there bytes (at + 1) (omega (arith, b .there)) k) (ap (λ o. value (ruleIn us v o, at + 2)) e))
 
   module _ (b : Begun bytes number at Argument) where
     opened-argument : (m : ℕ) {next : ℕ} → value (termAt us m, next) ≡ expressionAt bytes (length bytes) variables (at + 1) → value (ruleOf us number m, next) ≡ ruleAt bytes variables at
     unfolding ruleAt ruleOf stopAs
-    opened-argument m {next} h =
-        let (rule, e) = row-argument (getElem? rules number) (b .kind) in
-        goes-on _ (byte-there bytes at (b .there) (b .is))
-        (goes-on _ (is-found (UnfitRule at) e) (goes-on _ (ap (proofField bytes) h) (ap (λ o. value (ruleIn us m o, next)) e)))
+    opened-argument m {next} h = let (rule, e) = row-of number Argument (b .kind) in at-row b _ e (goes-on _ (ap (proofField bytes) h) (ap (λ o. value (ruleIn us m o, next)) e))
 
     opened-no-argument : (r : Parse) → NoTerm r → expressionAnswer us r ≡ expressionAt bytes (length bytes) variables (at + 1) → stop (refusalOf r (length bytes)) ≡ ruleAt bytes variables at
     unfolding ruleAt stopAs proofRefusal
-    opened-no-argument r o h =
-        let (rule, e) = row-argument (getElem? rules number) (b .kind) in
-        goes-on _ (byte-there bytes at (b .there) (b .is)) (goes-on _ (is-found (UnfitRule at) e) (stops _ (refuses r o ∙ ap (proofField bytes) h)))
+    opened-no-argument r o h = let (rule, e) = row-of number Argument (b .kind) in at-row b _ e (stops _ (refuses r o ∙ ap (proofField bytes) h))
       where
         refuses : (r : Parse) → NoTerm r → stop (refusalOf r (length bytes)) ≡ proofField bytes (expressionAnswer us r)
         refuses (Found m n l t) o = no-term o

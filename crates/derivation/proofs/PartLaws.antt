@@ -20,9 +20,11 @@ use Rattle.terms.proofs.Node.{enum as node-enum}
 use Rattle.terms.proofs.Table.{node-order, node-built}
 use Rattle.assumptions.specs.Area.{entryOf, atomIn}
 use Rattle.assumptions.specs.declared.Assumption.{Assumption}
-use Rattle.derivation.specs.Parts.{beforePair, Sides, Operands, FourOperands}
+use Rattle.derivation.specs.Parts.{beforePair, operandsFor, Sides, Accesses, Operands, FourOperands}
 use Rattle.derivation.specs.declared.Claim.{Claim}
 use Rattle.derivation.specs.declared.Claim.the-variants.{Atom, Readable, Writable}
+use Rattle.derivation.specs.declared.parts.Operation.{Operation}
+use Rattle.derivation.specs.declared.parts.Operation.the-variants.{Sum as SumOf, Difference as DifferenceOf}
 use Rattle.derivation.specs.declared.parts.Pair.{Pair}
 use Rattle.derivation.specs.declared.parts.Pair.the-variants.{Nodes, Misfit}
 use Rattle.derivation.specs.declared.parts.Quadruple.{Quadruple}
@@ -37,11 +39,11 @@ none-of : {A : Type 0} {w x y z : ℕ} → (w ≡ x → ⊥) → (w ≡ y → �
 none-of a b c o = ⊎-elim (λ e. absurd (a e)) (neither b c) o
 
 -- ---- the sides of a claim
-abbrev pub Access : Claim → Type 0
-Access claim = (variant (declared claim-enum) claim ≡ 1) ⊎ (variant (declared claim-enum) claim ≡ 2)
+abbrev pub NotAtom : Claim → Type 0
+NotAtom claim = (variant (declared claim-enum) claim ≡ 1) ⊎ (variant (declared claim-enum) claim ≡ 2)
 
 module _ {kind : Comparison} where
-  pub sides-access : (claim : Claim) → Access claim → Sides kind claim Misfit
+  pub sides-access : (claim : Claim) → NotAtom claim → Sides kind claim Misfit
   unfolding sidesOf atomOf _>>=_
   sides-access (Atom own left right) o = neither (omega arith) (omega arith) o
   sides-access (Readable t) o = record { is = λ ws. refl; below = λ top h. tt }
@@ -55,6 +57,17 @@ module _ {kind : Comparison} where
     pub sides-other : (m ≡ n → ⊥) → Sides kind claim Misfit
     unfolding sidesOf atomOf _>>=_ check
     sides-other h = rw e (record { is = λ ws. rw (ne-eqb (tagOf own) (tagOf kind) (λ i. h (a ∙ i ∙ sym b)), sidesOf); below = λ top i. tt })
+
+-- ---- what a claim asks to read or to write
+module _ {claim : Claim} where
+  pub no-access : {kind : Comparison} {left right : ℕ} → claim ≡ Atom kind left right → Accesses claim (record { right = 0; node = left })
+  no-access e = rw e (record { right = λ ws. refl; term = λ ws. refl; below = λ top h. h .0 })
+
+  pub readable-access : {t : ℕ} → claim ≡ Readable t → Accesses claim (record { right = 1; node = t })
+  readable-access e = rw e (record { right = λ ws. refl; term = λ ws. refl; below = λ top h. h })
+
+  pub writable-access : {t : ℕ} → claim ≡ Writable t → Accesses claim (record { right = 2; node = t })
+  writable-access e = rw e (record { right = λ ws. refl; term = λ ws. refl; below = λ top h. h })
 
 -- ---- the operands of a node
 abbrev shape : Node → ℕ
@@ -82,22 +95,24 @@ not-constant f (Sum l r) k o = refl
 not-constant f (Difference l r) k o = refl
 
 module _ {ws : List ℕ} {i : ℕ} (f : Formed ws (suc i)) {n : Node} (e : n ≡ viewOf ws i) where
-  pub sum-none : (shape n ≡ 0) ⊎ ((shape n ≡ 1) ⊎ (shape n ≡ 3)) → Operands ws i Misfit (sumOf (termAt ws i))
-  sum-none o = record { is = rw (node-built f e refl) (not-sum (termAt ws) n o); below = tt }
+  module _ {op : Operation} (t : op ≡ SumOf) where
+    pub sum-none : (shape n ≡ 0) ⊎ ((shape n ≡ 1) ⊎ (shape n ≡ 3)) → Operands ws i Misfit (operandsFor op (termAt ws i))
+    sum-none o = rw t (record { is = rw (node-built f e refl) (not-sum (termAt ws) n o); below = tt })
 
-  pub difference-none : (shape n ≡ 0) ⊎ ((shape n ≡ 1) ⊎ (shape n ≡ 2)) → Operands ws i Misfit (differenceOf (termAt ws i))
-  difference-none o = record { is = rw (node-built f e refl) (not-difference (termAt ws) n o); below = tt }
+    pub sum-nodes : {l r : ℕ} → n ≡ Sum l r → Operands ws i (Nodes l r) (operandsFor op (termAt ws i))
+    unfolding sumOf
+    sum-nodes a = rw t (record { is = rw (node-built f e a); below = node-order f e a })
+
+  module _ {op : Operation} (t : op ≡ DifferenceOf) where
+    pub difference-none : (shape n ≡ 0) ⊎ ((shape n ≡ 1) ⊎ (shape n ≡ 2)) → Operands ws i Misfit (operandsFor op (termAt ws i))
+    difference-none o = rw t (record { is = rw (node-built f e refl) (not-difference (termAt ws) n o); below = tt })
+
+    pub difference-nodes : {l r : ℕ} → n ≡ Difference l r → Operands ws i (Nodes l r) (operandsFor op (termAt ws i))
+    unfolding differenceOf
+    difference-nodes a = rw t (record { is = rw (node-built f e a); below = node-order f e a })
 
   pub constant-none : (k : ℕ) → (shape n ≡ 1) ⊎ ((shape n ≡ 2) ⊎ (shape n ≡ 3)) → false ≡ eqTerm (termAt ws i) (constant k)
   constant-none k o = rw (node-built f e refl) (not-constant (termAt ws) n k o)
-
-  pub sum-nodes : {l r : ℕ} → n ≡ Sum l r → Operands ws i (Nodes l r) (sumOf (termAt ws i))
-  unfolding sumOf
-  sum-nodes a = record { is = rw (node-built f e a); below = node-order f e a }
-
-  pub difference-nodes : {l r : ℕ} → n ≡ Difference l r → Operands ws i (Nodes l r) (differenceOf (termAt ws i))
-  unfolding differenceOf
-  difference-nodes a = record { is = rw (node-built f e a); below = node-order f e a }
 
   pub constant-same : (k : ℕ) {own : ℕ} → n ≡ Constant own → eqb own k ≡ eqTerm (termAt ws i) (constant k)
   unfolding eqTerm

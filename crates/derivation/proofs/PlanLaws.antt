@@ -1,16 +1,16 @@
 -- Laws of the choice among the rules: one for each arm. Assumes nothing.
-use mathlib.Core.Path.{_≡_, sym, ap, _∙_}
+use mathlib.Core.Path.{_≡_, refl, sym, ap, _∙_}
 use mathlib.Core.List.{List}
 use Prim.Native.Nat.{ℕ, zero, suc, _<_, _≤_}
 use native.Mathlib.Omega.{arith}
 use lib.ListN.{getElem?}
-use Rattle.model.specs.Result.{Fit}
+use Rattle.model.specs.Result.{Fit, _>>=_, check}
 use Rattle.model.specs.Atom.{Atom}
 use Rattle.model.specs.Policy.{Policy}
-use Rattle.model.specs.Goals.{Goal}
-use Rattle.model.specs.Rule.{rules, premises}
+use Rattle.model.specs.Goals.{Goal, Claim as Claimed, atom, readable, writable}
+use Rattle.model.specs.Rule.{rules, readableOf, writableOf, premises, in-readable-region, in-writable-region}
 use Rattle.derivation.specs.Parts.{claimOf}
-use Rattle.derivation.specs.Plan.{Planned, asks}
+use Rattle.derivation.specs.Plan.{Planned, asks, regionAsks}
 use Rattle.derivation.specs.Opening.{formOf, ruleOf}
 use Rattle.derivation.specs.Deriving.{Judged, Plannable}
 use Rattle.derivation.specs.declared.Claim.{Claim}
@@ -36,8 +36,22 @@ module _ {ws words : List ℕ} {scope : Scope} {number v : ℕ} {claim : Claim} 
   pub argument-below : (n : ℕ) → number ≡ n → Argument ≡ formOf (getElem? rules n) → v < top
   argument-below n e k = y .held (k ∙ ap (λ j. formOf (getElem? rules j)) (sym e))
 
--- what is planned is what the rule of number n asks
-pub chosen : {Where : Policy → Goal → Type 0} {asked : Policy → Goal → Fit (List Atom)} {words ws us : List ℕ} {scope : Scope} {number top : ℕ} {p : Plan} (v : ℕ) (claim : Claim) (n : ℕ) → number ≡ n → Planned Where asked ws us top p
-    → ((policy : Policy) (g : Goal) → Judged words ws scope policy g → Where policy g × (asked policy g ≡ premises policy g (ruleOf ws n v) (claimOf ws claim)))
-    → Planned (Judged words ws scope) (asks (ruleOf ws number v) (claimOf ws claim)) ws us top p
-chosen {ws = ws} v claim n e q k = says-as q (λ policy g j. (k policy g j .0, k policy g j .1 ∙ ap (λ i. premises policy g (ruleOf ws i v) (claimOf ws claim)) (sym e)))
+  -- what is planned is what the rule of number n asks
+  pub chosen : {Where : Policy → Goal → Type 0} {asked : Policy → Goal → Fit (List Atom)} {us : List ℕ} {p : Plan} (n : ℕ) → number ≡ n → Planned Where asked ws us top p
+      → ((policy : Policy) (g : Goal) → Judged words ws scope policy g → Where policy g × (asked policy g ≡ premises policy g (ruleOf ws n v) (claimOf ws claim)))
+      → Planned (Judged words ws scope) (asks (ruleOf ws number v) (claimOf ws claim)) ws us top p
+  chosen n e q k = says-as q (λ policy g j. (k policy g j .0, k policy g j .1 ∙ ap (λ i. premises policy g (ruleOf ws i v) (claimOf ws claim)) (sym e)))
+
+-- rules 22 and 23 are one rule for two rights
+module _ (policy : Policy) (g : Goal) (j : ℕ) where
+  pub reads-region : (c : Claimed) → regionAsks 1 j c policy g ≡ premises policy g (in-readable-region j) c
+  unfolding regionAsks premises readableOf _>>=_ check
+  reads-region (atom a) = refl
+  reads-region (readable t) = refl
+  reads-region (writable t) = refl
+
+  pub writes-region : (c : Claimed) → regionAsks 2 j c policy g ≡ premises policy g (in-writable-region j) c
+  unfolding regionAsks premises writableOf _>>=_ check
+  writes-region (atom a) = refl
+  writes-region (readable t) = refl
+  writes-region (writable t) = refl

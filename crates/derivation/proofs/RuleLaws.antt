@@ -1,20 +1,19 @@
 -- Laws of the rules: one for each way out of the code. Assumes nothing.
 use mathlib.Core.Path.{_≡_, refl, sym, ap, subst, _∙_}
-use mathlib.Core.Logic.{_⊎_}
 use mathlib.Core.Bool.{Bool, true, false, _&&_}
 use mathlib.Core.Option.{Option, none, some}
 use mathlib.Core.List.{List, [], _∷_}
 use Prim.Native.Nat.{ℕ, zero, suc, _+_, _<_, _≤_}
 use native.Mathlib.Omega.{arith}
 use lib.ListN.{length, getElem?}
-use denote.Enum.Declared.{tagOf as variant, declared}
+use borrow.Author.Tests.{eq-eqb, ne-eqb}
 use Rattle.model.specs.Result.{Result, Fit, misfit, stop, value, _>>=_, check, found}
 use Rattle.model.specs.Term.{Term, constant, variable, sum, difference, eqTerm, closed, eval}
 use Rattle.model.specs.Atom.{Atom, compares, holds, eqAtom}
 use Rattle.model.specs.Policy.{Policy}
 use Rattle.model.specs.Goals.{Goal, Claim as Claimed}
-use Rattle.model.specs.Rule.{atomOf, sidesOf, readableOf, writableOf, sumOf, differenceOf, regionPremises, premises}
-use Rattle.model.specs.Rule.{assumption, evaluation, congruence, linear, zero-at-most, sum-monotone, difference-monotone, successor-at-most, below-successor, sum-no-overflow, less-of-at-most, in-readable-region, in-writable-region, contradiction}
+use Rattle.model.specs.Rule.{atomOf, sidesOf, sumOf, regionPremises, premises}
+use Rattle.model.specs.Rule.{assumption, evaluation, congruence, linear, successor-at-most, below-successor, sum-no-overflow, less-of-at-most, contradiction}
 use Rattle.model.specs.Linear.{sameForm}
 use Rattle.model.proofs.Gives.{gives-value}
 use Rattle.model.specs.declared.Comparison.{Comparison}
@@ -31,20 +30,22 @@ use Rattle.linear.specs.declared.FormComparison.{FormComparison}
 use Rattle.linear.specs.declared.FormComparison.the-variants.{Same as SameForm, Different}
 use Rattle.terms.proofs.Frames.{same-refl, same-trans, same-within}
 use Rattle.terms.proofs.Table.{term-same, formed-less}
-use Rattle.derivation.proofs.PartLaws.{Access, neither}
+use Rattle.derivation.proofs.PartLaws.{neither, NotAtom}
 use Rattle.derivation.proofs.BoundLaws.{sides-bounded}
-use Rattle.derivation.proofs.Claim.{enum as claim-enum}
-use Rattle.derivation.specs.Parts.{claimOf, ClaimBelow, Linear, Sides, Operands, FourOperands}
-use Rattle.derivation.specs.Plan.{premise, blank, plan, atomIn, Grows, Planned, Anywhere, Assuming, asks, always, reflexivePremises, symmetricPremises, throughPremises, otherPremises, inRegion}
+use Rattle.derivation.specs.Parts.{claimOf, ClaimBelow, Linear, operandsFor, Sides, Accesses, Operands, FourOperands}
+use Rattle.derivation.specs.Plan.{premise, blank, plan, atomIn, Grows, Planned, Anywhere, Assuming, asks, always, symmetricPremises, throughPremises, otherPremises, monotonePremises, inRegion, regionAsks}
 use Rattle.derivation.specs.Regions.{regionIn, regionsFrom, regionsOf, may, Over}
 use Rattle.derivation.specs.declared.Claim.{Claim}
 use Rattle.derivation.specs.declared.Claim.the-variants.{Atom as AtomClaim, Readable, Writable}
 use Rattle.derivation.specs.declared.Premise.{Premise}
 use Rattle.derivation.specs.declared.Plan.{Plan}
+use Rattle.derivation.specs.declared.parts.Access.{Access}
+use Rattle.derivation.specs.declared.parts.Operation.{Operation}
+use Rattle.derivation.specs.declared.parts.Operation.the-variants.{Sum as SumOf, Difference as DifferenceOf}
 use Rattle.derivation.specs.declared.parts.Pair.{Pair}
 use Rattle.derivation.specs.declared.parts.Pair.the-variants.{Nodes, Misfit}
 use Rattle.derivation.specs.declared.parts.Quadruple.{Quadruple}
-use Rattle.derivation.specs.declared.parts.Quadruple.the-variants.{Nodes as FourNodes, Misfit as NoNodes}
+use Rattle.derivation.specs.declared.parts.Quadruple.the-variants.{Nodes as FourNodes}
 
 -- ---- the steps of a `do` block
 module _ {E A B : Type 0} {r : Result E A} (f : A → Result E B) where
@@ -64,6 +65,10 @@ module _ {E B : Type 0} {test : Bool} (e : E) (f : Unit {0} → Result E B) wher
   pub check-passes : {x : Result E B} → test ≡ true → x ≡ f tt → x ≡ (check test e >>= f)
   unfolding _>>=_ check
   check-passes h k = rw h k
+
+pub failed : {E : Type 0} {x test : Bool} (e : E) → x ≡ test → x ≡ false → stop e ≡ check test e
+unfolding check
+failed e h k = rw (sym h ∙ k)
 
 -- ---- what a callee's answer says, once its variant is known
 pub sides-told : {kind : Comparison} {claim : Claim} {r q : Pair} → Sides kind claim r → r ≡ q → Sides kind claim q
@@ -109,22 +114,40 @@ module _ {Where : Policy → Goal → Type 0} {asked : Policy → Goal → Fit (
 abbrev Unfit : (top : ℕ) → Plan → Type 0
 Unfit top p = p ≡ plan false 0 blank blank blank top
 
+-- the claim is no comparison
+no-atom : (ws : List ℕ) (claim : Claim) → NotAtom claim → stop misfit ≡ atomOf (claimOf ws claim)
+unfolding atomOf
+no-atom ws (AtomClaim own left right) o = neither (omega arith) (omega arith) o
+no-atom ws (Readable t) o = refl
+no-atom ws (Writable t) o = refl
+
+pub not-atom : {Where : Policy → Goal → Type 0} {ws : List ℕ} {top : ℕ} (claim : Claim) (k : Policy → Goal → Atom → Fit (List Atom)) {p : Plan} → Formed ws top → NotAtom claim → Unfit top p
+    → Planned Where (λ policy g. atomOf (claimOf ws claim) >>= k policy g) ws ws top p
+not-atom {ws = ws} claim k f o e = misfits (stays f) e (λ policy g _. stops _ (no-atom ws claim o))
+
 -- the claim is not of the kind that the rule asks for
 pub no-sides : {ws : List ℕ} {top : ℕ} {claim : Claim} {kind : Comparison} (k : Term × Term → Fit (List Atom)) {p : Plan} → Formed ws top → Sides kind claim Misfit → Unfit top p
     → Planned Anywhere (always (sidesOf kind (claimOf ws claim) >>= k)) ws ws top p
 no-sides {ws} k f s e = misfits (stays f) e (λ policy g _. stops k (s .is ws))
 
+-- it is of the kind, with sides l and r, which have not the parts that the rule asks for, or fail its test
+module _ {A : Type 0} {ws : List ℕ} {top : ℕ} {claim : Claim} {kind : Comparison} {l r : ℕ} (parts : Term × Term → Fit A) {p : Plan} where
+  pub no-parts : (k : Term × Term → A → Fit (List Atom)) → Formed ws top → Sides kind claim (Nodes l r) → stop misfit ≡ parts (termAt ws l, termAt ws r) → Unfit top p
+      → Planned Anywhere (always (sidesOf kind (claimOf ws claim) >>= λ x. parts x >>= k x)) ws ws top p
+  no-parts k f s h e = misfits (stays f) e (λ policy g _. goes-on _ (s .is ws) (stops _ h))
+
+  -- or the parts have not the parts
+  pub no-more-parts : {B : Type 0} {y : A} (more : Term × Term → A → Fit B) (k : Term × Term → A → B → Fit (List Atom)) → Formed ws top → Sides kind claim (Nodes l r) → value y ≡ parts (termAt ws l, termAt ws r)
+      → stop misfit ≡ more (termAt ws l, termAt ws r) y → Unfit top p → Planned Anywhere (always (sidesOf kind (claimOf ws claim) >>= λ x. parts x >>= λ z. more x z >>= k x z)) ws ws top p
+  no-more-parts more k f s j h e = misfits (stays f) e (λ policy g _. goes-on _ (s .is ws) (goes-on _ j (stops _ h)))
+
+-- it passes the rule's test, and the rule has no premise
+pub passes-test : {ws : List ℕ} {top : ℕ} {claim : Claim} {kind : Comparison} {l r : ℕ} {x : Bool} (test : Term × Term → Bool) {p : Plan} → Formed ws top → Sides kind claim (Nodes l r) → x ≡ test (termAt ws l, termAt ws r) → x ≡ true
+    → p ≡ plan true 0 blank blank blank top → Planned Anywhere (always (sidesOf kind (claimOf ws claim) >>= λ y. check (test y) misfit >>= λ _. value [])) ws ws top p
+passes-test {ws = ws} test f s h t e = fits-none (stays f) e (λ policy g _. goes-on _ (s .is ws) (check-passes _ _ (sym h ∙ t) refl))
+
 -- a claim of a kind, its sides being nodes a and b
 module _ {ws : List ℕ} {top : ℕ} {claim : Claim} (f : Formed ws top) (i : ClaimBelow top claim) {kind : Comparison} {a b : ℕ} (s : Sides kind claim (Nodes a b)) {p : Plan} where
-  module _ {x : Bool} (h : x ≡ eqTerm (termAt ws a) (termAt ws b)) where
-    pub reflexive-fits : x ≡ true → p ≡ plan true 0 blank blank blank top → Planned Anywhere (always (reflexivePremises kind (claimOf ws claim))) ws ws top p
-    unfolding reflexivePremises
-    reflexive-fits t e = fits-none (stays f) e (λ policy g _. goes-on _ (s .is ws) (check-passes _ _ (sym h ∙ t) refl))
-
-    pub reflexive-differs : x ≡ false → Unfit top p → Planned Anywhere (always (reflexivePremises kind (claimOf ws claim))) ws ws top p
-    unfolding reflexivePremises
-    reflexive-differs t e = misfits (stays f) e (λ policy g _. goes-on _ (s .is ws) (check-fails _ _ (sym h ∙ t)))
-
   module _ {x : Premise} where
     pub symmetric-fits : x ≡ premise kind b a → p ≡ plan true 1 x x x top → Planned Anywhere (always (symmetricPremises kind (claimOf ws claim))) ws ws top p
     unfolding symmetricPremises
@@ -141,10 +164,6 @@ module _ {ws : List ℕ} {top : ℕ} {claim : Claim} (f : Formed ws top) (i : Cl
 
 -- a claim a = b
 module _ {ws : List ℕ} {top : ℕ} {claim : Claim} (f : Formed ws top) (i : ClaimBelow top claim) {l r : ℕ} (s : Sides Equal claim (Nodes l r)) {p : Plan} where
-  pub congruence-misfits : FourOperands ws l r NoNodes → Unfit top p → Planned Anywhere (asks congruence (claimOf ws claim)) ws ws top p
-  unfolding premises
-  congruence-misfits o e = misfits (stays f) e (λ policy g _. goes-on _ (s .is ws) (stops _ (o .is)))
-
   pub congruence-fits : {a b c d : ℕ} → FourOperands ws l r (FourNodes a b c d) → {x y : Premise} → x ≡ premise Equal a c → y ≡ premise Equal b d → p ≡ plan true 2 x y y top
       → Planned Anywhere (asks congruence (claimOf ws claim)) ws ws top p
   unfolding premises
@@ -185,12 +204,6 @@ some-variable t h = go (closed t) h
     go true e = let z : _≡_ {A = ℕ} 0 1 = cc in absurd (omega arith)
     go false e = refl
 
-pub no-atom : (ws : List ℕ) (claim : Claim) → Access claim → stop misfit ≡ atomOf (claimOf ws claim)
-unfolding atomOf
-no-atom ws (AtomClaim own left right) o = neither (omega arith) (omega arith) o
-no-atom ws (Readable t) o = refl
-no-atom ws (Writable t) o = refl
-
 pub is-atom : (ws : List ℕ) {claim : Claim} {kind : Comparison} {l r : ℕ} → claim ≡ AtomClaim kind l r → value (atomIn ws (premise kind l r)) ≡ atomOf (claimOf ws claim)
 unfolding atomOf
 is-atom ws e = rw e
@@ -201,10 +214,6 @@ unfolding holds
 evaluation-test s t kind h k e = let m = no-variables s h in let n = no-variables t k in rw (m .0, n .0, ← m .1, ← n .1) (sym e)
 
 module _ {ws : List ℕ} {top : ℕ} (claim : Claim) (f : Formed ws top) {p : Plan} where
-  pub evaluation-access : Access claim → Unfit top p → Planned Anywhere (asks evaluation (claimOf ws claim)) ws ws top p
-  unfolding premises
-  evaluation-access o e = misfits (stays f) e (λ policy g _. stops _ (no-atom ws claim o))
-
   module _ {kind : Comparison} {l r : ℕ} (c : claim ≡ AtomClaim kind l r) where
     pub evaluation-left : Open ≡ closedValue (termAt ws l) → Unfit top p → Planned Anywhere (asks evaluation (claimOf ws claim)) ws ws top p
     unfolding premises
@@ -237,71 +246,32 @@ sum-is (sum s t) h = sym (ap joined h)
 sum-is (difference s t) h = let z : _≡_ {A = ℕ} 0 1 = cc in absurd (omega arith)
 
 module _ {ws : List ℕ} {top : ℕ} {claim : Claim} (f : Formed ws top) (i : ClaimBelow top claim) {l r : ℕ} (s : Sides AtMost claim (Nodes l r)) {p : Plan} where
-  -- rule 13
-  module _ {x : Bool} (h : x ≡ eqTerm (termAt ws l) (constant 0)) where
-    pub zero-fits : x ≡ true → p ≡ plan true 0 blank blank blank top → Planned Anywhere (asks zero-at-most (claimOf ws claim)) ws ws top p
-    unfolding premises
-    zero-fits t e = fits-none (stays f) e (λ policy g _. goes-on _ (s .is ws) (check-passes _ _ (sym h ∙ t) refl))
-
-    pub zero-misfits : x ≡ false → Unfit top p → Planned Anywhere (asks zero-at-most (claimOf ws claim)) ws ws top p
-    unfolding premises
-    zero-misfits t e = misfits (stays f) e (λ policy g _. goes-on _ (s .is ws) (check-fails _ _ (sym h ∙ t)))
-
-  -- rule 14
-  pub sums-left : Operands ws l Misfit (sumOf (termAt ws l)) → Unfit top p → Planned Anywhere (asks sum-monotone (claimOf ws claim)) ws ws top p
-  unfolding premises
-  sums-left o e = misfits (stays f) e (λ policy g _. goes-on _ (s .is ws) (stops _ (o .is)))
-
-  module _ {a b : ℕ} (o : Operands ws l (Nodes a b) (sumOf (termAt ws l))) where
-    pub sums-right : Operands ws r Misfit (sumOf (termAt ws r)) → Unfit top p → Planned Anywhere (asks sum-monotone (claimOf ws claim)) ws ws top p
-    unfolding premises
-    sums-right q e = misfits (stays f) e (λ policy g _. goes-on _ (s .is ws) (goes-on _ (o .is) (stops _ (q .is))))
-
-    pub sums-fits : {c d : ℕ} {x y z : Premise} → Operands ws r (Nodes c d) (sumOf (termAt ws r)) → x ≡ premise AtMost a c → y ≡ premise AtMost b d → z ≡ premise AtMost c r → p ≡ plan true 3 x y z top
-        → Planned Anywhere (asks sum-monotone (claimOf ws claim)) ws ws top p
-    unfolding premises
-    sums-fits q d1 d2 d3 e =
+  -- rules 14 and 15
+  module _ {op : Operation} {a b c d : ℕ} (o : Operands ws l (Nodes a b) (operandsFor op (termAt ws l))) (q : Operands ws r (Nodes c d) (operandsFor op (termAt ws r))) {x y z : Premise} (d1 : x ≡ premise AtMost a c) where
+    pub sums-fits : op ≡ SumOf → y ≡ premise AtMost b d → z ≡ premise AtMost c r → p ≡ plan true 3 x y z top → Planned Anywhere (always (monotonePremises op (claimOf ws claim))) ws ws top p
+    unfolding monotonePremises
+    sums-fits t d2 d3 e =
         let j = s .below top i in
         let k = o .below in
         let m = q .below in
         fits-three (stays f) d1 (omega arith) d2 (omega arith) d3 (omega arith) e
-        (λ policy g _. goes-on _ (s .is ws) (goes-on _ (o .is) (goes-on _ (q .is) (rw (sum-is (termAt ws r) (q .is))))))
+        (λ policy g _. goes-on _ (s .is ws) (goes-on _ (o .is) (goes-on _ (q .is) (rw (t, sum-is (termAt ws r) (rw t at (q .is)))))))
 
-  -- rule 15
-  pub differences-left : Operands ws l Misfit (differenceOf (termAt ws l)) → Unfit top p → Planned Anywhere (asks difference-monotone (claimOf ws claim)) ws ws top p
-  unfolding premises
-  differences-left o e = misfits (stays f) e (λ policy g _. goes-on _ (s .is ws) (stops _ (o .is)))
-
-  module _ {a b : ℕ} (o : Operands ws l (Nodes a b) (differenceOf (termAt ws l))) where
-    pub differences-right : Operands ws r Misfit (differenceOf (termAt ws r)) → Unfit top p → Planned Anywhere (asks difference-monotone (claimOf ws claim)) ws ws top p
-    unfolding premises
-    differences-right q e = misfits (stays f) e (λ policy g _. goes-on _ (s .is ws) (goes-on _ (o .is) (stops _ (q .is))))
-
-    pub differences-fits : {c d : ℕ} {x y z : Premise} → Operands ws r (Nodes c d) (differenceOf (termAt ws r)) → x ≡ premise AtMost a c → y ≡ premise AtMost d b → z ≡ premise AtMost b a → p ≡ plan true 3 x y z top
-        → Planned Anywhere (asks difference-monotone (claimOf ws claim)) ws ws top p
-    unfolding premises
-    differences-fits q d1 d2 d3 e =
+    pub differences-fits : op ≡ DifferenceOf → y ≡ premise AtMost d b → z ≡ premise AtMost b a → p ≡ plan true 3 x y z top → Planned Anywhere (always (monotonePremises op (claimOf ws claim))) ws ws top p
+    unfolding monotonePremises
+    differences-fits t d2 d3 e =
         let j = s .below top i in
         let k = o .below in
         let m = q .below in
-        fits-three (stays f) d1 (omega arith) d2 (omega arith) d3 (omega arith) e (λ policy g _. goes-on _ (s .is ws) (goes-on _ (o .is) (goes-on _ (q .is) refl)))
+        fits-three (stays f) d1 (omega arith) d2 (omega arith) d3 (omega arith) e (λ policy g _. goes-on _ (s .is ws) (goes-on _ (o .is) (goes-on _ (q .is) (rw t))))
 
   -- rule 16
-  pub successor-left : Operands ws l Misfit (sumOf (termAt ws l)) → Unfit top p → Planned Anywhere (asks successor-at-most (claimOf ws claim)) ws ws top p
+  pub successor-fits : {a n : ℕ} → Operands ws l (Nodes a n) (sumOf (termAt ws l)) → {x : Bool} → x ≡ eqTerm (termAt ws n) (constant 1) → {y : Premise} → x ≡ true → y ≡ premise Less a r → p ≡ plan true 1 y y y top → Planned Anywhere (asks successor-at-most (claimOf ws claim)) ws ws top p
   unfolding premises
-  successor-left o e = misfits (stays f) e (λ policy g _. goes-on _ (s .is ws) (stops _ (o .is)))
-
-  module _ {a n : ℕ} (o : Operands ws l (Nodes a n) (sumOf (termAt ws l))) {x : Bool} (h : x ≡ eqTerm (termAt ws n) (constant 1)) where
-    pub successor-differs : x ≡ false → Unfit top p → Planned Anywhere (asks successor-at-most (claimOf ws claim)) ws ws top p
-    unfolding premises
-    successor-differs t e = misfits (stays f) e (λ policy g _. goes-on _ (s .is ws) (goes-on _ (o .is) (check-fails _ _ (sym h ∙ t))))
-
-    pub successor-fits : {y : Premise} → x ≡ true → y ≡ premise Less a r → p ≡ plan true 1 y y y top → Planned Anywhere (asks successor-at-most (claimOf ws claim)) ws ws top p
-    unfolding premises
-    successor-fits t d e =
-        let j = s .below top i in
-        let k = o .below in
-        fits-one (stays f) d (omega arith) e (λ policy g _. goes-on _ (s .is ws) (goes-on _ (o .is) (check-passes _ _ (sym h ∙ t) refl)))
+  successor-fits o h t d e =
+      let j = s .below top i in
+      let k = o .below in
+      fits-one (stays f) d (omega arith) e (λ policy g _. goes-on _ (s .is ws) (goes-on _ (o .is) (check-passes _ _ (sym h ∙ t) refl)))
 
 -- ---- two new nodes
 -- what the second asks once the first is put
@@ -346,15 +316,6 @@ module _ {ws us vs : List ℕ} {top : ℕ} {claim : Claim} (i : ClaimBelow top c
       let below : t < top = omega (arith, o .below .1) in
       fits-one (two-put f g) d (omega arith) e
       (λ policy goal _. goes-on _ (s .is ws) (goes-on _ (o .is) (check-passes _ _ (sym h ∙ k) (rw (kept-term (two-put f g .kept) (j .0), g .is, f .is, kept-term (f .kept) below, u)))))
-
-module _ {ws : List ℕ} {top : ℕ} {claim : Claim} (f : Formed ws top) {a b : ℕ} (s : Sides AtMost claim (Nodes a b)) {p : Plan} where
-  pub no-overflow-right : Operands ws b Misfit (sumOf (termAt ws b)) → Unfit top p → Planned Anywhere (asks sum-no-overflow (claimOf ws claim)) ws ws top p
-  unfolding premises
-  no-overflow-right o e = misfits (stays f) e (λ policy g _. goes-on _ (s .is ws) (stops _ (o .is)))
-
-  pub no-overflow-differs : {q t : ℕ} {x : Bool} → Operands ws b (Nodes q t) (sumOf (termAt ws b)) → x ≡ eqTerm (termAt ws a) (termAt ws q) → x ≡ false → Unfit top p → Planned Anywhere (asks sum-no-overflow (claimOf ws claim)) ws ws top p
-  unfolding premises
-  no-overflow-differs o h k e = misfits (stays f) e (λ policy g _. goes-on _ (s .is ws) (goes-on _ (o .is) (check-fails _ _ (sym h ∙ k))))
 
 -- ---- rule 12
 form-test : {x : FormComparison} (test : Bool) → x ≡ comparisonOf test → (x ≡ SameForm → test ≡ true) × (x ≡ Different → test ≡ false)
@@ -433,45 +394,17 @@ says-as q k = record {
   third = q .third;
 }
 
-abbrev variant-of : Claim → ℕ
-variant-of claim = variant (declared claim-enum) claim
+module _ {Where : Policy → Goal → Type 0} {ws : List ℕ} {top right : ℕ} (j : ℕ) {claim : Claim} {a : Access} (y : Accesses claim a) {p : Plan} where
+  pub access-misfits : Formed ws top → (a .right ≡ right → ⊥) → Unfit top p → Planned Where (regionAsks right j (claimOf ws claim)) ws ws top p
+  unfolding regionAsks
+  access-misfits f n e = misfits (stays f) e (λ policy g _. check-fails _ _ (ne-eqb _ right (λ h. n (sym (y .right ws) ∙ h))))
 
-not-readable : (ws : List ℕ) (claim : Claim) → (variant-of claim ≡ 0) ⊎ (variant-of claim ≡ 2) → stop misfit ≡ readableOf (claimOf ws claim)
-unfolding readableOf
-not-readable ws (AtomClaim own left right) o = refl
-not-readable ws (Readable t) o = neither (omega arith) (omega arith) o
-not-readable ws (Writable t) o = refl
-
-not-writable : (ws : List ℕ) (claim : Claim) → (variant-of claim ≡ 0) ⊎ (variant-of claim ≡ 1) → stop misfit ≡ writableOf (claimOf ws claim)
-unfolding writableOf
-not-writable ws (AtomClaim own left right) o = refl
-not-writable ws (Readable t) o = refl
-not-writable ws (Writable t) o = neither (omega arith) (omega arith) o
-
-module _ {Where : Policy → Goal → Type 0} {ws : List ℕ} {top : ℕ} (claim : Claim) (j : ℕ) {p : Plan} where
-  pub readable-other : Formed ws top → (variant-of claim ≡ 0) ⊎ (variant-of claim ≡ 2) → Unfit top p → Planned Where (asks (in-readable-region j) (claimOf ws claim)) ws ws top p
-  unfolding premises
-  readable-other f o e = misfits (stays f) e (λ policy g _. stops _ (not-readable ws claim o))
-
-  pub writable-other : Formed ws top → (variant-of claim ≡ 0) ⊎ (variant-of claim ≡ 1) → Unfit top p → Planned Where (asks (in-writable-region j) (claimOf ws claim)) ws ws top p
-  unfolding premises
-  writable-other f o e = misfits (stays f) e (λ policy g _. stops _ (not-writable ws claim o))
-
-module _ {Where : Policy → Goal → Type 0} {ws us : List ℕ} {top : ℕ} (j : ℕ) {t : ℕ} {claim : Claim} {p : Plan} where
-  pub readable-in : claim ≡ Readable t → Planned Where (inRegion 1 j (termAt ws t)) ws us top p → Planned Where (asks (in-readable-region j) (claimOf ws claim)) ws us top p
-  unfolding premises readableOf _>>=_
-  readable-in e q = says-as q (λ policy g h. (h, rw e))
-
-  pub writable-in : claim ≡ Writable t → Planned Where (inRegion 2 j (termAt ws t)) ws us top p → Planned Where (asks (in-writable-region j) (claimOf ws claim)) ws us top p
-  unfolding premises writableOf _>>=_
-  writable-in e q = says-as q (λ policy g h. (h, rw e))
+  pub access-fits : {us : List ℕ} → a .right ≡ right → Planned Where (inRegion right j (termAt ws (a .node))) ws us top p → Planned Where (regionAsks right j (claimOf ws claim)) ws us top p
+  unfolding regionAsks
+  access-fits e q = says-as q (λ policy g h. (h, check-passes _ _ (eq-eqb _ right (y .right ws ∙ e)) (ap (λ t. inRegion right j t policy g) (sym (y .term ws)))))
 
 -- ---- rule 0
 module _ {ws : List ℕ} {top : ℕ} (index : ℕ) (claim : Claim) (f : Formed ws top) {p : Plan} where
-  pub assumption-access : {Where : Policy → Goal → Type 0} → Access claim → Unfit top p → Planned Where (asks (assumption index) (claimOf ws claim)) ws ws top p
-  unfolding premises
-  assumption-access o e = misfits (stays f) e (λ policy g _. stops _ (no-atom ws claim o))
-
   module _ (count : ℕ) {kind : Comparison} {l r : ℕ} (c : claim ≡ AtomClaim kind l r) where
     pub assumption-past : count ≤ index → Unfit top p → Planned (Assuming (listed ws count)) (asks (assumption index) (claimOf ws claim)) ws ws top p
     unfolding premises

@@ -6,13 +6,16 @@ use Rattle.model.specs.Result.{Fit, misfit, stop, value}
 use Rattle.model.specs.Term.{Term}
 use Rattle.model.specs.Atom.{Atom}
 use Rattle.model.specs.Linear.{variableBound}
-use Rattle.model.specs.Rule.{sidesOf, operandsOf}
+use Rattle.model.specs.Rule.{sidesOf, sumOf, differenceOf, operandsOf}
 use Rattle.model.specs.Goals.{Claim as Claimed, atom, readable, writable}
 use Rattle.model.specs.declared.Comparison.{Comparison}
 use Rattle.terms.specs.Table.{termAt}
 use Rattle.linear.specs.Area.{constantWord, Cleared}
 use Rattle.derivation.specs.declared.Claim.{Claim}
 use Rattle.derivation.specs.declared.Claim.the-variants.{Atom as AtomClaim, Readable, Writable}
+use Rattle.derivation.specs.declared.parts.Access.{Access}
+use Rattle.derivation.specs.declared.parts.Operation.{Operation}
+use Rattle.derivation.specs.declared.parts.Operation.the-variants.{Sum, Difference}
 use Rattle.derivation.specs.declared.parts.Pair.{Pair}
 use Rattle.derivation.specs.declared.parts.Pair.the-variants.{Nodes, Misfit}
 use Rattle.derivation.specs.declared.parts.Quadruple.{Quadruple}
@@ -39,11 +42,27 @@ ClaimBounded n (atom a) = AtomBounded n a
 ClaimBounded n (readable t) = variableBound t ≤ n
 ClaimBounded n (writable t) = variableBound t ≤ n
 
+-- the right that a claim asks for, 1 to read or 2 to write, and the term; a comparison asks for none, 0
+abbrev pub rightOf : Claimed → ℕ
+rightOf (atom a) = 0
+rightOf (readable t) = 1
+rightOf (writable t) = 2
+
+abbrev pub accessedOf : Claimed → Term
+accessedOf (atom a) = a .left
+accessedOf (readable t) = t
+accessedOf (writable t) = t
+
 -- what linear forms need: few variables, those of the claim among them, and the coefficients' area free
 pub record Linear (ws : List ℕ) (variables : ℕ) (claim : Claim) : Type 0 where
   pub most : variables ≤ constantWord
   pub bounded : ClaimBounded variables (claimOf ws claim)
   pub cleared : Cleared ws
+
+-- the operands of a term of an operation
+abbrev pub operandsFor : Operation → Term → Fit (Term × Term)
+operandsFor Sum t = sumOf t
+operandsFor Difference t = differenceOf t
 
 -- the two terms that the words ws say
 abbrev pub pairOf : List ℕ → Pair → Fit (Term × Term)
@@ -72,6 +91,12 @@ beforePair a b Misfit = NoNodes
 pub record Sides (kind : Comparison) (claim : Claim) (r : Pair) : Type 0 where
   pub is : (ws : List ℕ) → pairOf ws r ≡ sidesOf kind (claimOf ws claim)
   pub below : (top : ℕ) → ClaimBelow top claim → PairBelow top r
+
+-- what a claim asks to read or to write, whatever the table
+pub record Accesses (claim : Claim) (r : Access) : Type 0 where
+  pub right : (ws : List ℕ) → rightOf (claimOf ws claim) ≡ r .right
+  pub term : (ws : List ℕ) → accessedOf (claimOf ws claim) ≡ termAt ws (r .node)
+  pub below : (top : ℕ) → ClaimBelow top claim → r .node < top
 
 -- operands of node i: the two terms s, nodes before it
 pub record Operands (ws : List ℕ) (i : ℕ) (r : Pair) (s : Fit (Term × Term)) : Type 0 where

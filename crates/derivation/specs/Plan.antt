@@ -2,18 +2,22 @@
 use mathlib.Core.Path.{_≡_}
 use mathlib.Core.Bool.{Bool, true, false}
 use mathlib.Core.List.{List, [], _∷_}
+use lib.Dec.{eqb}
 use Prim.Native.Nat.{ℕ, zero, suc, _+_, _<_, _≤_}
 use Rattle.model.specs.Result.{Fit, misfit, stop, value, _>>=_, check}
-use Rattle.model.specs.Term.{Term, eqTerm}
-use Rattle.model.specs.Atom.{Atom}
+use Rattle.model.specs.Term.{Term, sum, eqTerm}
+use Rattle.model.specs.Atom.{Atom, atMost}
 use Rattle.model.specs.Policy.{Policy}
 use Rattle.model.specs.Goals.{Goal, Claim as Claimed}
 use Rattle.model.specs.Rule.{Rule, sidesOf, regionPremises, premises}
 use Rattle.model.specs.declared.Comparison.{Comparison}
-use Rattle.model.specs.declared.Comparison.the-variants.{Equal}
+use Rattle.model.specs.declared.Comparison.the-variants.{Equal, AtMost}
 use Rattle.terms.specs.Workspace.{Same}
 use Rattle.terms.specs.Table.{place, termAt, Formed}
 use Rattle.derivation.specs.Regions.{may}
+use Rattle.derivation.specs.Parts.{rightOf, accessedOf, operandsFor}
+use Rattle.derivation.specs.declared.parts.Operation.{Operation}
+use Rattle.derivation.specs.declared.parts.Operation.the-variants.{Sum, Difference}
 use Rattle.derivation.specs.declared.Premise.{Premise}
 use Rattle.derivation.specs.declared.Plan.{Plan}
 
@@ -90,7 +94,7 @@ asks rule c policy g = premises policy g rule c
 abbrev pub always : Fit (List Atom) → Policy → Goal → Fit (List Atom)
 always s policy g = s
 
--- ---- rules that differ in kinds
+-- ---- rules that differ in a kind, an operation or a right
 -- 1, 2: a ~ a
 unfoldable pub reflexivePremises : Comparison → Claimed → Fit (List Atom)
 reflexivePremises kind c = do
@@ -116,6 +120,24 @@ otherPremises whole other c = do
   (a, b) ← sidesOf whole c
   value (record { kind = other; left = a; right = b } ∷ [])
 
+-- 14, 15: a claim of two sums, of two differences
+abbrev pub monotoneAtoms : Operation → (a b p q : Term) → List Atom
+monotoneAtoms Sum a b p q = atMost a p ∷ atMost b q ∷ atMost p (sum p q) ∷ []
+monotoneAtoms Difference a b p q = atMost a p ∷ atMost q b ∷ atMost b a ∷ []
+
+unfoldable pub monotonePremises : Operation → Claimed → Fit (List Atom)
+monotonePremises operation c = do
+  (l, r) ← sidesOf AtMost c
+  (a, b) ← operandsFor operation l
+  (p, q) ← operandsFor operation r
+  value (monotoneAtoms operation a b p q)
+
 -- 22, 23: t lies in region j, which has the right
 abbrev pub inRegion : (right j : ℕ) → Term → Policy → Goal → Fit (List Atom)
 inRegion right j t policy g = regionPremises policy (may right) j t
+
+-- the same of a claim that asks for the right
+unfoldable pub regionAsks : (right j : ℕ) → Claimed → Policy → Goal → Fit (List Atom)
+regionAsks right j c policy g = do
+  _ ← check (eqb (rightOf c) right) misfit
+  inRegion right j (accessedOf c) policy g

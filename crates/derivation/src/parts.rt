@@ -8,16 +8,27 @@ ghost use Prim.Native.Nat.{suc, _<_, _≤_};
 ghost use lib.ListN.{length};
 ghost use Rattle.model.specs.Term.{constant, eqTerm};
 ghost use Rattle.model.specs.Atom.{compares, eqAtom};
-ghost use Rattle.model.specs.Rule.{sumOf, differenceOf};
 ghost use Rattle.terms.specs.Workspace.{workspaceWords, mostAssumptions};
 ghost use Rattle.terms.specs.Table.{termAt, Formed};
 ghost use Rattle.assumptions.specs.Area.{entryOf, atomIn};
-ghost use Rattle.derivation.specs.Parts.{beforePair, Sides, Operands, FourOperands};
+ghost use Rattle.derivation.specs.Parts.{beforePair, operandsFor, Sides, Accesses, Operands, FourOperands};
 
 // Two nodes, or that what is looked at has not the form that is asked for.
 pub enum Pair {
     Nodes(usize, usize),
     Misfit,
+}
+
+// An operation of two terms.
+pub enum Operation {
+    Sum,
+    Difference,
+}
+
+// The right that a claim asks for, 1 to read or 2 to write, and the node; a comparison asks for none, 0.
+pub struct Access {
+    pub right: u32,
+    pub node: usize,
 }
 
 // Four nodes, or a misfit.
@@ -52,26 +63,36 @@ pub fn sides(claim: Claim, kind: Comparison) -> Pair
     }
 }
 
-// The two operands of a sum.
-pub fn sum_operands(ws: &[u32], i: usize) -> Pair
-    requires { ⌜ Formed (now ws) (suc i) ⌝ }
-    ensures { λ r. ⌜ Operands (now (ws .entry)) i r (sumOf (termAt (now (ws .entry)) i)) ⌝ }
+// What a claim asks to read or to write.
+pub fn accessed(claim: Claim) -> Access
+    ensures { λ r. ⌜ Accesses claim r ⌝ }
 {
-    let Node::Sum(left, right) = terms::view(ws, i) else {
-        return Pair::Misfit;
-    };
-    Pair::Nodes(left, right)
+    match claim {
+        Claim::Atom(_, left, _) => Access {
+            right: 0,
+            node: left,
+        },
+        Claim::Readable(t) => Access { right: 1, node: t },
+        Claim::Writable(t) => Access { right: 2, node: t },
+    }
 }
 
-// The two operands of a difference.
-pub fn difference_operands(ws: &[u32], i: usize) -> Pair
+// The two operands of node i, where it is of the operation.
+pub fn operands(ws: &[u32], i: usize, operation: Operation) -> Pair
     requires { ⌜ Formed (now ws) (suc i) ⌝ }
-    ensures { λ r. ⌜ Operands (now (ws .entry)) i r (differenceOf (termAt (now (ws .entry)) i)) ⌝ }
+    ensures { λ r. ⌜ Operands (now (ws .entry)) i r (operandsFor operation (termAt (now (ws .entry)) i)) ⌝ }
 {
-    let Node::Difference(left, right) = terms::view(ws, i) else {
-        return Pair::Misfit;
-    };
-    Pair::Nodes(left, right)
+    let node = terms::view(ws, i);
+    match operation {
+        Operation::Sum => match node {
+            Node::Sum(left, right) => Pair::Nodes(left, right),
+            _ => Pair::Misfit,
+        },
+        Operation::Difference => match node {
+            Node::Difference(left, right) => Pair::Nodes(left, right),
+            _ => Pair::Misfit,
+        },
+    }
 }
 
 // Two nodes before a pair of them.
@@ -91,8 +112,8 @@ pub fn same_operation(ws: &[u32], i: usize, j: usize) -> Quadruple
     ensures { λ r. ⌜ FourOperands (now (ws .entry)) i j r ⌝ }
 {
     match terms::view(ws, i) {
-        Node::Sum(a, b) => before(a, b, sum_operands(ws, j)),
-        Node::Difference(a, b) => before(a, b, difference_operands(ws, j)),
+        Node::Sum(a, b) => before(a, b, operands(ws, j, Operation::Sum)),
+        Node::Difference(a, b) => before(a, b, operands(ws, j, Operation::Difference)),
         _ => Quadruple::Misfit,
     }
 }

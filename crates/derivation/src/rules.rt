@@ -4,6 +4,7 @@ use crate::Plan;
 use crate::Premise;
 use crate::Scope;
 use crate::parts;
+use crate::parts::Operation;
 use crate::parts::Pair;
 use crate::parts::Quadruple;
 use linear::FormComparison;
@@ -15,7 +16,7 @@ ghost use mathlib.Core.List.{List};
 ghost use Prim.Native.Nat.{ℕ, _<_, _≤_};
 ghost use lib.ListN.{length};
 ghost use Rattle.model.specs.Goals.{Claim as Claimed};
-ghost use Rattle.model.specs.Rule.{assumption, evaluation, congruence, linear, zero-at-most, sum-monotone, difference-monotone, successor-at-most, below-successor, sum-no-overflow, less-of-at-most, in-readable-region, in-writable-region, contradiction};
+ghost use Rattle.model.specs.Rule.{assumption, evaluation, congruence, linear, zero-at-most, successor-at-most, below-successor, sum-no-overflow, less-of-at-most, contradiction};
 ghost use Rattle.terms.specs.Workspace.{workspaceWords};
 ghost use Rattle.terms.specs.Table.{termAt, Formed, Space};
 ghost use Rattle.assumptions.specs.Area.{listed, Listed};
@@ -23,7 +24,7 @@ ghost use Rattle.derivation.specs.Parts.{claimOf, ClaimBelow, Linear};
 ghost use Rattle.derivation.specs.Opening.{ruleOf};
 ghost use Rattle.derivation.specs.Deriving.{Judged, Plannable};
 ghost use Rattle.derivation.specs.Regions.{regionsOf, RegionWords, Over};
-ghost use Rattle.derivation.specs.Plan.{plan, blank, Anywhere, Assuming, always, asks, Planned, reflexivePremises, symmetricPremises, throughPremises, otherPremises, inRegion};
+ghost use Rattle.derivation.specs.Plan.{plan, blank, Anywhere, Assuming, always, asks, Planned, reflexivePremises, symmetricPremises, throughPremises, otherPremises, monotonePremises, regionAsks};
 
 // ---- plans
 
@@ -67,46 +68,39 @@ fn none(top: usize) -> Plan
     without_premise(true, top)
 }
 
+// A plan with premises, the first `count` of three.
+fn with_premises(count: usize, a: Premise, b: Premise, c: Premise, top: usize) -> Plan
+    ensures { λ r. ⌜ r ≡ plan true count a b c top ⌝ }
+{
+    Plan {
+        fits: true,
+        count,
+        first: a,
+        second: b,
+        third: c,
+        top,
+    }
+}
+
 // One premise.
 fn one(a: Premise, top: usize) -> Plan
     ensures { λ r. ⌜ r ≡ plan true 1 a a a top ⌝ }
 {
-    Plan {
-        fits: true,
-        count: 1,
-        first: a,
-        second: a,
-        third: a,
-        top,
-    }
+    with_premises(1, a, a, a, top)
 }
 
 // Two premises.
 fn two(a: Premise, b: Premise, top: usize) -> Plan
     ensures { λ r. ⌜ r ≡ plan true 2 a b b top ⌝ }
 {
-    Plan {
-        fits: true,
-        count: 2,
-        first: a,
-        second: b,
-        third: b,
-        top,
-    }
+    with_premises(2, a, b, b, top)
 }
 
 // Three premises.
 fn three(a: Premise, b: Premise, c: Premise, top: usize) -> Plan
     ensures { λ r. ⌜ r ≡ plan true 3 a b c top ⌝ }
 {
-    Plan {
-        fits: true,
-        count: 3,
-        first: a,
-        second: b,
-        third: c,
-        top,
-    }
+    with_premises(3, a, b, c, top)
 }
 
 // ---- the rules
@@ -261,50 +255,36 @@ fn from_zero(ws: &[u32], claim: Claim, top: usize) -> Plan
     }
 }
 
-// Rule 14: a+b ≤ c+d from a ≤ c, b ≤ d, c ≤ c+d.
-fn sums(ws: &[u32], claim: Claim, top: usize) -> Plan
+// Rule 14: a+b ≤ c+d from a ≤ c, b ≤ d, c ≤ c+d. Rule 15: a-b ≤ c-d from a ≤ c, d ≤ b, b ≤ a.
+fn monotone(ws: &[u32], claim: Claim, operation: Operation, top: usize) -> Plan
     requires { ⌜ Formed (now ws) top ⌝ }
     requires { ⌜ ClaimBelow top claim ⌝ }
-    ensures { λ r. ⌜ Planned Anywhere (asks sum-monotone (claimOf (now (ws .entry)) claim)) (now (ws .entry)) (now (ws .entry)) top r ⌝ }
+    ensures { λ r. ⌜ Planned Anywhere (always (monotonePremises operation (claimOf (now (ws .entry)) claim))) (now (ws .entry)) (now (ws .entry)) top r ⌝ }
 {
     let Pair::Nodes(left, right) = parts::sides(claim, Comparison::AtMost) else {
         return unfit(top);
     };
-    let Pair::Nodes(a, b) = parts::sum_operands(ws, left) else {
+    let Pair::Nodes(a, b) = parts::operands(ws, left, operation) else {
         return unfit(top);
     };
-    let Pair::Nodes(c, d) = parts::sum_operands(ws, right) else {
+    let Pair::Nodes(c, d) = parts::operands(ws, right, operation) else {
         return unfit(top);
     };
-    three(
-        compared(Comparison::AtMost, a, c),
-        compared(Comparison::AtMost, b, d),
-        compared(Comparison::AtMost, c, right),
-        top,
-    )
-}
-
-// Rule 15: a-b ≤ c-d from a ≤ c, d ≤ b, b ≤ a.
-fn differences(ws: &[u32], claim: Claim, top: usize) -> Plan
-    requires { ⌜ Formed (now ws) top ⌝ }
-    requires { ⌜ ClaimBelow top claim ⌝ }
-    ensures { λ r. ⌜ Planned Anywhere (asks difference-monotone (claimOf (now (ws .entry)) claim)) (now (ws .entry)) (now (ws .entry)) top r ⌝ }
-{
-    let Pair::Nodes(left, right) = parts::sides(claim, Comparison::AtMost) else {
-        return unfit(top);
-    };
-    let Pair::Nodes(a, b) = parts::difference_operands(ws, left) else {
-        return unfit(top);
-    };
-    let Pair::Nodes(c, d) = parts::difference_operands(ws, right) else {
-        return unfit(top);
-    };
-    three(
-        compared(Comparison::AtMost, a, c),
-        compared(Comparison::AtMost, d, b),
-        compared(Comparison::AtMost, b, a),
-        top,
-    )
+    let first = compared(Comparison::AtMost, a, c);
+    match operation {
+        Operation::Sum => three(
+            first,
+            compared(Comparison::AtMost, b, d),
+            compared(Comparison::AtMost, c, right),
+            top,
+        ),
+        Operation::Difference => three(
+            first,
+            compared(Comparison::AtMost, d, b),
+            compared(Comparison::AtMost, b, a),
+            top,
+        ),
+    }
 }
 
 // Rule 16: a+1 ≤ b from a < b.
@@ -316,7 +296,7 @@ fn successor(ws: &[u32], claim: Claim, top: usize) -> Plan
     let Pair::Nodes(left, b) = parts::sides(claim, Comparison::AtMost) else {
         return unfit(top);
     };
-    let Pair::Nodes(a, unit) = parts::sum_operands(ws, left) else {
+    let Pair::Nodes(a, unit) = parts::operands(ws, left, Operation::Sum) else {
         return unfit(top);
     };
     if parts::is_constant(ws, unit, 1) {
@@ -351,7 +331,7 @@ fn no_overflow(ws: &mut [u32], claim: Claim, top: usize) -> Plan
     let Pair::Nodes(a, right) = parts::sides(claim, Comparison::AtMost) else {
         return unfit(top);
     };
-    let Pair::Nodes(p, b) = parts::sum_operands(ws, right) else {
+    let Pair::Nodes(p, b) = parts::operands(ws, right, Operation::Sum) else {
         return unfit(top);
     };
     if terms::same(ws, a, p) {
@@ -378,25 +358,31 @@ fn strict(claim: Claim, top: usize) -> Plan
     )
 }
 
-// Rules 22 and 23 for node t: base ≤ t, t < base plus length, region j having the right. Two new nodes.
+// Rules 22 and 23: readable(t), writable(t), from base ≤ t, t < base plus length, region j having the right, 1 to read or 2 to write.
+// Two new nodes.
 fn in_region(
     regions: &[u32],
     count: usize,
     ws: &mut [u32],
+    claim: Claim,
     right: u32,
-    t: usize,
     j: usize,
     top: usize,
 ) -> Plan
     requires { ⌜ RegionWords (now regions) count ⌝ }
     requires { ⌜ Formed (now ws) top ⌝ }
     requires { ⌜ Space (now ws) top 4 ⌝ }
-    requires { ⌜ t < top ⌝ }
-    ensures { λ r. ⌜ Planned (Over (regionsOf (now (regions .entry)) count)) (inRegion right j (termAt (now (ws .entry)) t)) (now (ws .entry)) (now (ws .exit)) top r ⌝ }
+    requires { ⌜ ClaimBelow top claim ⌝ }
+    ensures { λ r. ⌜ Planned (Over (regionsOf (now (regions .entry)) count)) (regionAsks right j (claimOf (now (ws .entry)) claim)) (now (ws .entry)) (now (ws .exit)) top r ⌝ }
 {
+    let access = parts::accessed(claim);
+    if access.right != right {
+        return unfit(top);
+    }
     if count <= j {
         return unfit(top);
     }
+    let t = access.node;
     let base = regions[3 * j];
     let size = regions[3 * j + 1];
     let rights = regions[3 * j + 2];
@@ -411,48 +397,6 @@ fn in_region(
     } else {
         unfit(top)
     }
-}
-
-// Rule 22: readable(t).
-fn readable(
-    regions: &[u32],
-    count: usize,
-    ws: &mut [u32],
-    claim: Claim,
-    j: usize,
-    top: usize,
-) -> Plan
-    requires { ⌜ RegionWords (now regions) count ⌝ }
-    requires { ⌜ Formed (now ws) top ⌝ }
-    requires { ⌜ Space (now ws) top 4 ⌝ }
-    requires { ⌜ ClaimBelow top claim ⌝ }
-    ensures { λ r. ⌜ Planned (Over (regionsOf (now (regions .entry)) count)) (asks (in-readable-region j) (claimOf (now (ws .entry)) claim)) (now (ws .entry)) (now (ws .exit)) top r ⌝ }
-{
-    let Claim::Readable(t) = claim else {
-        return unfit(top);
-    };
-    in_region(regions, count, ws, 1, t, j, top)
-}
-
-// Rule 23: writable(t).
-fn writable(
-    regions: &[u32],
-    count: usize,
-    ws: &mut [u32],
-    claim: Claim,
-    j: usize,
-    top: usize,
-) -> Plan
-    requires { ⌜ RegionWords (now regions) count ⌝ }
-    requires { ⌜ Formed (now ws) top ⌝ }
-    requires { ⌜ Space (now ws) top 4 ⌝ }
-    requires { ⌜ ClaimBelow top claim ⌝ }
-    ensures { λ r. ⌜ Planned (Over (regionsOf (now (regions .entry)) count)) (asks (in-writable-region j) (claimOf (now (ws .entry)) claim)) (now (ws .entry)) (now (ws .exit)) top r ⌝ }
-{
-    let Claim::Writable(t) = claim else {
-        return unfit(top);
-    };
-    in_region(regions, count, ws, 2, t, j, top)
 }
 
 // Rule 24: any claim from m < m.
@@ -495,16 +439,16 @@ pub fn planned(
         11 => congruent(ws, claim, top),
         12 => same_form(ws, scope.variables, claim, top),
         13 => from_zero(ws, claim, top),
-        14 => sums(ws, claim, top),
-        15 => differences(ws, claim, top),
+        14 => monotone(ws, claim, Operation::Sum, top),
+        15 => monotone(ws, claim, Operation::Difference, top),
         16 => successor(ws, claim, top),
         17 => within_successor(ws, claim, top),
         18 => no_overflow(ws, claim, top),
         19 => strict(claim, top),
         20 => of_other_kind(claim, unequal, less, top),
         21 => symmetric(claim, unequal, top),
-        22 => readable(regions, scope.regions, ws, claim, value, top),
-        23 => writable(regions, scope.regions, ws, claim, value, top),
+        22 => in_region(regions, scope.regions, ws, claim, 1, value, top),
+        23 => in_region(regions, scope.regions, ws, claim, 2, value, top),
         _ => contradicted(value, top),
     }
 }

@@ -9,8 +9,8 @@ view-requires c κs = search needs
 enum-known-a : tie.Need-enum-known-a
 enum-known-a c = search needs
 
-sum-operands-requires : tie.Need-sum-operands-requires
-sum-operands-requires c κs = search needs
+operands-requires : tie.Need-operands-requires
+operands-requires c κs = search needs
 
 before-requires : tie.Need-before-requires
 before-requires c κs = search needs
@@ -18,17 +18,17 @@ before-requires c κs = search needs
 enum-known-a-2 : tie.Need-enum-known-a-2
 enum-known-a-2 c = search needs
 
-difference-operands-requires : tie.Need-difference-operands-requires
-difference-operands-requires c κs = search needs
+operands-requires-2 : tie.Need-operands-requires-2
+operands-requires-2 c κs = search needs
 
 before-requires-2 : tie.Need-before-requires-2
 before-requires-2 c κs = search needs
 
 returns : tie.Need-returns
-returns c = four-sum (c .before .before .before .before .before .before .before .pre .0) (c .before .before .before .before .before .view .ensures) (c .before2 .ensures) (c .before .before .before .a .given .1) (c .before .sum-operands .ensures)
+returns c = four-sum (c .before .before .before .before .before .before .before .pre .0) (c .before .before .before .before .before .view .ensures) (c .before2 .ensures) (c .before .before .before .a .given .1) (c .before .operands .ensures)
 
 returns-2 : tie.Need-returns-2
-returns-2 c = four-difference (c .before .before .before .before .before .before .before .pre .0) (c .before .before .before .before .before .view .ensures) (c .before3 .ensures) (c .before .before .before .a2 .given .1) (c .before .difference-operands .ensures)
+returns-2 c = four-difference (c .before .before .before .before .before .before .before .pre .0) (c .before .before .before .before .before .view .ensures) (c .before3 .ensures) (c .before .before .before .a2 .given .1) (c .before .operands2 .ensures)
 
 returns-3 : tie.Need-returns-3
 returns-3 c = four-none (c .before .before .before .pre .0) (c .before .view .ensures) (c .match .keys3)
@@ -39,10 +39,10 @@ same-operation-spec =
     (tie.spec
     view-requires
     enum-known-a
-    sum-operands-requires
+    operands-requires
     before-requires
     enum-known-a-2
-    difference-operands-requires
+    operands-requires-2
     before-requires-2
     returns
     returns-2

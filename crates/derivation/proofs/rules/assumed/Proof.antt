@@ -1,5 +1,6 @@
 use borrow.Author.Needs.{needs}
-use Rattle.derivation.proofs.RuleLaws.{assumption-access, assumption-asks, assumption-differs, assumption-fits, assumption-past}
+use Rattle.derivation.proofs.RuleLaws.{assumption-asks, assumption-differs, assumption-fits, assumption-past, not-atom}
+use Rattle.model.specs.Rule.{premises}
 use Rattle.derivation.proofs.rules.assumed.Statement.{statement}
 use Rattle.derivation.proofs.rules.assumed.Tie as tie
 
@@ -10,7 +11,8 @@ unfit-requires : tie.Need-unfit-requires
 unfit-requires c κs = search needs
 
 returns : tie.Need-returns
-returns c = assumption-access _ (c .before .before .before .args .claim) (c .before .before .before .pre .0) (c .before .match .keys2) (c .unfit .ensures)
+unfolding premises
+returns c = not-atom (c .before .before .before .args .claim) _ (c .before .before .before .pre .0) (c .before .match .keys2) (c .unfit .ensures)
 
 unfit-requires-2 : tie.Need-unfit-requires-2
 unfit-requires-2 c κs = search needs

@@ -1,5 +1,5 @@
 use borrow.Author.Needs.{needs}
-use Rattle.derivation.proofs.RuleLaws.{congruence-fits, congruence-misfits, formed-at, four-told, no-sides, sides-told}
+use Rattle.derivation.proofs.RuleLaws.{congruence-fits, no-parts, formed-at, four-told, no-sides, sides-told}
 use Rattle.model.specs.Rule.{premises}
 use Rattle.derivation.proofs.rules.congruent.Statement.{statement}
 use Rattle.derivation.proofs.rules.congruent.Tie as tie
@@ -33,7 +33,8 @@ unfit-requires-2 : tie.Need-unfit-requires-2
 unfit-requires-2 c κs = search needs
 
 returns-2 : tie.Need-returns-2
-returns-2 c = congruence-misfits (c .before .before .before .before .before .before .before .before .before .pre .0) (c .before .before .before .before .before .before .before .before .before .pre .1) (sides-told (c .before .before .before .before .before .before .before .sides .ensures) (c .before .before .before .before .before .left .given .1)) (four-told (c .before .before .before .same-operation .ensures) (c .before .enum-told2 .given .1)) (c .unfit2 .ensures)
+unfolding premises
+returns-2 c = no-parts _ _ (c .before .before .before .before .before .before .before .before .before .pre .0) (sides-told (c .before .before .before .before .before .before .before .sides .ensures) (c .before .before .before .before .before .left .given .1)) (four-told (c .before .before .before .same-operation .ensures) (c .before .enum-told2 .given .1) .is) (c .unfit2 .ensures)
 
 compared-requires : tie.Need-compared-requires
 compared-requires c κs = search needs

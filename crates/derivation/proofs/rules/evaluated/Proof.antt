@@ -1,6 +1,7 @@
 use mathlib.Core.Path.{_∙_, sym}
 use borrow.Author.Needs.{needs}
-use Rattle.derivation.proofs.RuleLaws.{evaluation-access, evaluation-fails, evaluation-fits, evaluation-left, evaluation-right, formed-at, told-below}
+use Rattle.derivation.proofs.RuleLaws.{evaluation-fails, evaluation-fits, evaluation-left, evaluation-right, formed-at, not-atom, told-below}
+use Rattle.model.specs.Rule.{premises}
 use Rattle.derivation.proofs.rules.evaluated.Statement.{statement}
 use Rattle.derivation.proofs.rules.evaluated.Tie as tie
 
@@ -11,7 +12,8 @@ unfit-requires : tie.Need-unfit-requires
 unfit-requires c κs = search needs
 
 returns : tie.Need-returns
-returns c = evaluation-access (c .before .before .before .args .claim) (c .before .before .before .pre .0) (c .before .match .keys2) (c .unfit .ensures)
+unfolding premises
+returns c = not-atom (c .before .before .before .args .claim) _ (c .before .before .before .pre .0) (c .before .match .keys2) (c .unfit .ensures)
 
 evaluate-requires : tie.Need-evaluate-requires
 evaluate-requires c κs = formed-at (c .before .before .before .before .pre .0) (told-below _ (c .before .claim .given .1) (c .before .before .before .before .pre .1) .0)

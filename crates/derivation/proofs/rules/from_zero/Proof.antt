@@ -1,5 +1,5 @@
 use borrow.Author.Needs.{needs}
-use Rattle.derivation.proofs.RuleLaws.{formed-at, no-sides, sides-told, zero-fits, zero-misfits}
+use Rattle.derivation.proofs.RuleLaws.{failed, formed-at, no-parts, no-sides, passes-test, sides-told}
 use Rattle.model.specs.Rule.{premises}
 use Rattle.derivation.proofs.rules.from_zero.Statement.{statement}
 use Rattle.derivation.proofs.rules.from_zero.Tie as tie
@@ -30,10 +30,12 @@ unfit-requires-2 : tie.Need-unfit-requires-2
 unfit-requires-2 c κs = search needs
 
 returns-2 : tie.Need-returns-2
-returns-2 c = zero-fits (c .before .before .before .before .before .before .before .before .pre .0) (c .before .before .before .before .before .before .before .before .pre .1) (sides-told (c .before .before .before .before .before .before .sides .ensures) (c .before .before .before .before .zero .given .1)) (c .before .before .is-constant .ensures) (c .before .if1 .taken) (c .none .ensures)
+unfolding premises
+returns-2 c = passes-test _ (c .before .before .before .before .before .before .before .before .pre .0) (sides-told (c .before .before .before .before .before .before .sides .ensures) (c .before .before .before .before .zero .given .1)) (c .before .before .is-constant .ensures) (c .before .if1 .taken) (c .none .ensures)
 
 returns-3 : tie.Need-returns-3
-returns-3 c = zero-misfits (c .before .before .before .before .before .before .before .before .pre .0) (c .before .before .before .before .before .before .before .before .pre .1) (sides-told (c .before .before .before .before .before .before .sides .ensures) (c .before .before .before .before .zero .given .1)) (c .before .before .is-constant .ensures) (c .before .if1 .left) (c .unfit2 .ensures)
+unfolding premises
+returns-3 c = no-parts _ _ (c .before .before .before .before .before .before .before .before .pre .0) (sides-told (c .before .before .before .before .before .before .sides .ensures) (c .before .before .before .before .zero .given .1)) (failed _ (c .before .before .is-constant .ensures) (c .before .if1 .left)) (c .unfit2 .ensures)
 
 pub from-zero-spec : {M : Type 1} → statement M
 from-zero-spec =

@@ -1,7 +1,7 @@
-use mathlib.Core.Path.{refl}
 use native.Mathlib.Omega.{arith}
 use borrow.Author.Needs.{needs}
-use Rattle.derivation.proofs.RuleLaws.{formed-at, no-overflow-differs, no-overflow-fits, no-overflow-right, no-sides, operands-told, put-asks-parts, sides-told}
+use mathlib.Core.Path.{refl}
+use Rattle.derivation.proofs.RuleLaws.{failed, formed-at, no-more-parts, no-overflow-fits, no-parts, no-sides, operands-told, put-asks-parts, sides-told}
 use Rattle.model.specs.Rule.{premises}
 use Rattle.terms.proofs.Table.{part}
 use Rattle.derivation.proofs.rules.no_overflow.Statement.{statement}
@@ -23,8 +23,8 @@ returns : tie.Need-returns
 unfolding premises
 returns c = no-sides _ (c .before .before .before .before .before .pre .0) (sides-told (c .before .before .before .sides .ensures) (c .before .enum-told .given .1)) (c .unfit .ensures)
 
-sum-operands-requires : tie.Need-sum-operands-requires
-sum-operands-requires c κs = formed-at (c .before .before .before .before .before .before .pre .0) (sides-told (c .before .before .before .before .sides .ensures) (c .before .before .a .given .1) .below _ (c .before .before .before .before .before .before .pre .1 .1) .1)
+operands-requires : tie.Need-operands-requires
+operands-requires c κs = formed-at (c .before .before .before .before .before .before .pre .0) (sides-told (c .before .before .before .before .sides .ensures) (c .before .before .a .given .1) .below _ (c .before .before .before .before .before .before .pre .1 .1) .1)
 
 enum-known-p : tie.Need-enum-known-p
 enum-known-p c = search needs
@@ -39,10 +39,11 @@ same-length : tie.Need-same-length
 same-length c = search needs
 
 returns-2 : tie.Need-returns-2
-returns-2 c = no-overflow-right (c .before .before .before .before .before .before .before .before .before .before .pre .0) (sides-told (c .before .before .before .before .before .before .before .before .sides .ensures) (c .before .before .before .before .before .before .a .given .1)) (operands-told (c .before .before .before .sum-operands .ensures) (c .before .enum-told2 .given .1)) (c .unfit2 .ensures)
+unfolding premises
+returns-2 c = no-parts _ _ (c .before .before .before .before .before .before .before .before .before .before .pre .0) (sides-told (c .before .before .before .before .before .before .before .before .sides .ensures) (c .before .before .before .before .before .before .a .given .1)) (operands-told (c .before .before .before .operands .ensures) (c .before .enum-told2 .given .1) .is) (c .unfit2 .ensures)
 
 same-requires : tie.Need-same-requires
-same-requires c κs = let j = sides-told (c .before .before .before .before .before .before .before .before .before .sides .ensures) (c .before .before .before .before .before .before .before .a .given .1) .below _ (c .before .before .before .before .before .before .before .before .before .before .before .pre .1 .1) in (formed-at (c .before .before .before .before .before .before .before .before .before .before .before .pre .0) (j .0), part (formed-at (c .before .before .before .before .before .before .before .before .before .before .before .pre .0) (j .1)) (operands-told (c .before .before .before .before .sum-operands .ensures) (c .before .before .p .given .1) .below .0))
+same-requires c κs = let j = sides-told (c .before .before .before .before .before .before .before .before .before .sides .ensures) (c .before .before .before .before .before .before .before .a .given .1) .below _ (c .before .before .before .before .before .before .before .before .before .before .before .pre .1 .1) in (formed-at (c .before .before .before .before .before .before .before .before .before .before .before .pre .0) (j .0), part (formed-at (c .before .before .before .before .before .before .before .before .before .before .before .pre .0) (j .1)) (operands-told (c .before .before .before .before .operands .ensures) (c .before .before .p .given .1) .below .0))
 
 put-constant-requires : tie.Need-put-constant-requires
 put-constant-requires c κs = search needs
@@ -51,7 +52,7 @@ add-put-difference : tie.Need-add-put-difference
 add-put-difference c = search needs
 
 put-difference-requires : tie.Need-put-difference-requires
-put-difference-requires c κs = put-asks-parts (c .before .before .before .before .before .before .before .before .before .before .before .before .before .before .before .before .before .before .pre .1 .0) (c .before .before .before .put-constant .ensures) (c .before .before .before .put-constant .kept .0) _ _ (omega arith) (omega (arith, operands-told (c .before .before .before .before .before .before .before .before .before .before .before .sum-operands .ensures) (c .before .before .before .before .before .before .before .before .before .p .given .1) .below .1, sides-told (c .before .before .before .before .before .before .before .before .before .before .before .before .before .before .before .before .sides .ensures) (c .before .before .before .before .before .before .before .before .before .before .before .before .before .before .a .given .1) .below _ (c .before .before .before .before .before .before .before .before .before .before .before .before .before .before .before .before .before .before .pre .1 .1) .1))
+put-difference-requires c κs = put-asks-parts (c .before .before .before .before .before .before .before .before .before .before .before .before .before .before .before .before .before .before .pre .1 .0) (c .before .before .before .put-constant .ensures) (c .before .before .before .put-constant .kept .0) _ _ (omega arith) (omega (arith, operands-told (c .before .before .before .before .before .before .before .before .before .before .before .operands .ensures) (c .before .before .before .before .before .before .before .before .before .p .given .1) .below .1, sides-told (c .before .before .before .before .before .before .before .before .before .before .before .before .before .before .before .before .sides .ensures) (c .before .before .before .before .before .before .before .before .before .before .before .before .before .before .a .given .1) .below _ (c .before .before .before .before .before .before .before .before .before .before .before .before .before .before .before .before .before .before .pre .1 .1) .1))
 
 add-compared : tie.Need-add-compared
 add-compared c = search needs
@@ -72,13 +73,14 @@ same-length-2 : tie.Need-same-length-2
 same-length-2 c = search needs
 
 returns-3 : tie.Need-returns-3
-returns-3 c = no-overflow-fits (c .before .before .before .before .before .before .before .before .before .before .before .before .before .before .before .before .before .before .before .before .before .before .before .pre .1 .1) (sides-told (c .before .before .before .before .before .before .before .before .before .before .before .before .before .before .before .before .before .before .before .before .before .sides .ensures) (c .before .before .before .before .before .before .before .before .before .before .before .before .before .before .before .before .before .before .before .a .given .1)) (c .before .before .before .before .before .before .before .before .put-constant .ensures) (operands-told (c .before .before .before .before .before .before .before .before .before .before .before .before .before .before .before .before .sum-operands .ensures) (c .before .before .before .before .before .before .before .before .before .before .before .before .before .before .p .given .1)) (c .before .before .before .before .before .before .before .before .before .before .before .same .ensures) (c .before .before .before .before .before .before .before .before .before .before .if1 .taken) (c .before .before .before .before .put-difference .ensures) refl (c .before .compared .ensures) (c .one .ensures)
+returns-3 c = no-overflow-fits (c .before .before .before .before .before .before .before .before .before .before .before .before .before .before .before .before .before .before .before .before .before .before .before .pre .1 .1) (sides-told (c .before .before .before .before .before .before .before .before .before .before .before .before .before .before .before .before .before .before .before .before .before .sides .ensures) (c .before .before .before .before .before .before .before .before .before .before .before .before .before .before .before .before .before .before .before .a .given .1)) (c .before .before .before .before .before .before .before .before .put-constant .ensures) (operands-told (c .before .before .before .before .before .before .before .before .before .before .before .before .before .before .before .before .operands .ensures) (c .before .before .before .before .before .before .before .before .before .before .before .before .before .before .p .given .1)) (c .before .before .before .before .before .before .before .before .before .before .before .same .ensures) (c .before .before .before .before .before .before .before .before .before .before .if1 .taken) (c .before .before .before .before .put-difference .ensures) refl (c .before .compared .ensures) (c .one .ensures)
 
 same-length-3 : tie.Need-same-length-3
 same-length-3 c = search needs
 
 returns-4 : tie.Need-returns-4
-returns-4 c = no-overflow-differs (c .before .before .before .before .before .before .before .before .before .before .before .before .before .before .pre .0) (sides-told (c .before .before .before .before .before .before .before .before .before .before .before .before .sides .ensures) (c .before .before .before .before .before .before .before .before .before .before .a .given .1)) (operands-told (c .before .before .before .before .before .before .before .sum-operands .ensures) (c .before .before .before .before .before .p .given .1)) (c .before .before .same .ensures) (c .before .if1 .left) (c .unfit3 .ensures)
+unfolding premises
+returns-4 c = no-more-parts _ _ _ (c .before .before .before .before .before .before .before .before .before .before .before .before .before .before .pre .0) (sides-told (c .before .before .before .before .before .before .before .before .before .before .before .before .sides .ensures) (c .before .before .before .before .before .before .before .before .before .before .a .given .1)) (operands-told (c .before .before .before .before .before .before .before .operands .ensures) (c .before .before .before .before .before .p .given .1) .is) (failed _ (c .before .before .same .ensures) (c .before .if1 .left)) (c .unfit3 .ensures)
 
 pub no-overflow-spec : {M : Type 1} → statement M
 no-overflow-spec =
@@ -89,7 +91,7 @@ no-overflow-spec =
     enum-told
     unfit-requires
     returns
-    sum-operands-requires
+    operands-requires
     enum-known-p
     enum-told-2
     unfit-requires-2

@@ -1,8 +1,8 @@
-use mathlib.Core.Path.{refl}
 use borrow.Author.Needs.{needs}
-use Rattle.derivation.proofs.PlanLaws.{argument-below, chosen, last-rule}
+use mathlib.Core.Path.{refl}
+use Rattle.derivation.proofs.PlanLaws.{argument-below, chosen, last-rule, reads-region, writes-region}
 use Rattle.derivation.specs.Opening.{ruleOf}
-use Rattle.derivation.specs.Plan.{otherPremises, reflexivePremises, symmetricPremises, throughPremises}
+use Rattle.derivation.specs.Plan.{monotonePremises, otherPremises, reflexivePremises, symmetricPremises, throughPremises}
 use Rattle.model.specs.Rule.{premises}
 use Rattle.derivation.proofs.rules.planned.Statement.{statement}
 use Rattle.derivation.proofs.rules.planned.Tie as tie
@@ -49,11 +49,11 @@ same-form-requires c κs = search needs
 from-zero-requires : tie.Need-from-zero-requires
 from-zero-requires c κs = search needs
 
-sums-requires : tie.Need-sums-requires
-sums-requires c κs = search needs
+monotone-requires : tie.Need-monotone-requires
+monotone-requires c κs = search needs
 
-differences-requires : tie.Need-differences-requires
-differences-requires c κs = search needs
+monotone-requires-2 : tie.Need-monotone-requires-2
+monotone-requires-2 c κs = search needs
 
 successor-requires : tie.Need-successor-requires
 successor-requires c κs = search needs
@@ -73,11 +73,11 @@ of-other-kind-requires-3 c κs = search needs
 symmetric-requires-2 : tie.Need-symmetric-requires-2
 symmetric-requires-2 c κs = search needs
 
-readable-requires : tie.Need-readable-requires
-readable-requires c κs = search needs
+in-region-requires : tie.Need-in-region-requires
+in-region-requires c κs = search needs
 
-writable-requires : tie.Need-writable-requires
-writable-requires c κs = search needs
+in-region-requires-2 : tie.Need-in-region-requires-2
+in-region-requires-2 c κs = search needs
 
 contradicted-requires : tie.Need-contradicted-requires
 contradicted-requires c κs = argument-below (c .before .before .before .pre) 24 (last-rule (c .before .before .before .pre) (c .match .rest)) refl
@@ -87,142 +87,142 @@ same-length c = search needs
 
 returns : tie.Need-returns
 unfolding ruleOf
-returns c = chosen (c .before .before .before .before .before .args .value) (c .before .before .before .before .before .args .claim) 0 (c .before .before .match .keys1) (c .assumed .ensures) (λ policy g j. (j .assumptions, refl))
+returns c = chosen (c .before .before .before .before .before .pre) 0 (c .before .before .match .keys1) (c .assumed .ensures) (λ policy g j. (j .assumptions, refl))
 
 same-length-2 : tie.Need-same-length-2
 same-length-2 c = search needs
 
 returns-2 : tie.Need-returns-2
 unfolding premises reflexivePremises ruleOf
-returns-2 c = chosen (c .before .before .before .before .before .args .value) (c .before .before .before .before .before .args .claim) 1 (c .before .before .match .keys2) (c .reflexive .ensures) (λ policy g j. (tt, refl))
+returns-2 c = chosen (c .before .before .before .before .before .pre) 1 (c .before .before .match .keys2) (c .reflexive .ensures) (λ policy g j. (tt, refl))
 
 same-length-3 : tie.Need-same-length-3
 same-length-3 c = search needs
 
 returns-3 : tie.Need-returns-3
 unfolding premises reflexivePremises ruleOf
-returns-3 c = chosen (c .before .before .before .before .before .args .value) (c .before .before .before .before .before .args .claim) 2 (c .before .before .match .keys3) (c .reflexive2 .ensures) (λ policy g j. (tt, refl))
+returns-3 c = chosen (c .before .before .before .before .before .pre) 2 (c .before .before .match .keys3) (c .reflexive2 .ensures) (λ policy g j. (tt, refl))
 
 same-length-4 : tie.Need-same-length-4
 same-length-4 c = search needs
 
 returns-4 : tie.Need-returns-4
 unfolding ruleOf
-returns-4 c = chosen (c .before .before .before .before .before .args .value) (c .before .before .before .before .before .args .claim) 3 (c .before .before .match .keys4) (c .evaluated .ensures) (λ policy g j. (tt, refl))
+returns-4 c = chosen (c .before .before .before .before .before .pre) 3 (c .before .before .match .keys4) (c .evaluated .ensures) (λ policy g j. (tt, refl))
 
 returns-5 : tie.Need-returns-5
 unfolding premises symmetricPremises ruleOf
-returns-5 c = chosen (c .before .before .before .before .args .value) (c .before .before .before .before .args .claim) 4 (c .before .match .keys5) (c .symmetric .ensures _ (c .before .before .before .before .pre .prepared .formed)) (λ policy g j. (tt, refl))
+returns-5 c = chosen (c .before .before .before .before .pre) 4 (c .before .match .keys5) (c .symmetric .ensures _ (c .before .before .before .before .pre .prepared .formed)) (λ policy g j. (tt, refl))
 
 returns-6 : tie.Need-returns-6
 unfolding premises throughPremises ruleOf
-returns-6 c = chosen (c .before .before .before .before .args .value) (c .before .before .before .before .args .claim) 5 (c .before .match .keys6) (c .through .ensures _ (c .before .before .before .before .pre .prepared .formed)) (λ policy g j. (tt, refl))
+returns-6 c = chosen (c .before .before .before .before .pre) 5 (c .before .match .keys6) (c .through .ensures _ (c .before .before .before .before .pre .prepared .formed)) (λ policy g j. (tt, refl))
 
 returns-7 : tie.Need-returns-7
 unfolding premises throughPremises ruleOf
-returns-7 c = chosen (c .before .before .before .before .args .value) (c .before .before .before .before .args .claim) 6 (c .before .match .keys7) (c .through2 .ensures _ (c .before .before .before .before .pre .prepared .formed)) (λ policy g j. (tt, refl))
+returns-7 c = chosen (c .before .before .before .before .pre) 6 (c .before .match .keys7) (c .through2 .ensures _ (c .before .before .before .before .pre .prepared .formed)) (λ policy g j. (tt, refl))
 
 returns-8 : tie.Need-returns-8
 unfolding premises throughPremises ruleOf
-returns-8 c = chosen (c .before .before .before .before .args .value) (c .before .before .before .before .args .claim) 7 (c .before .match .keys8) (c .through3 .ensures _ (c .before .before .before .before .pre .prepared .formed)) (λ policy g j. (tt, refl))
+returns-8 c = chosen (c .before .before .before .before .pre) 7 (c .before .match .keys8) (c .through3 .ensures _ (c .before .before .before .before .pre .prepared .formed)) (λ policy g j. (tt, refl))
 
 returns-9 : tie.Need-returns-9
 unfolding premises throughPremises ruleOf
-returns-9 c = chosen (c .before .before .before .before .args .value) (c .before .before .before .before .args .claim) 8 (c .before .match .keys9) (c .through4 .ensures _ (c .before .before .before .before .pre .prepared .formed)) (λ policy g j. (tt, refl))
+returns-9 c = chosen (c .before .before .before .before .pre) 8 (c .before .match .keys9) (c .through4 .ensures _ (c .before .before .before .before .pre .prepared .formed)) (λ policy g j. (tt, refl))
 
 returns-10 : tie.Need-returns-10
 unfolding premises otherPremises ruleOf
-returns-10 c = chosen (c .before .before .before .before .args .value) (c .before .before .before .before .args .claim) 9 (c .before .match .keys10) (c .of-other-kind .ensures _ (c .before .before .before .before .pre .prepared .formed)) (λ policy g j. (tt, refl))
+returns-10 c = chosen (c .before .before .before .before .pre) 9 (c .before .match .keys10) (c .of-other-kind .ensures _ (c .before .before .before .before .pre .prepared .formed)) (λ policy g j. (tt, refl))
 
 returns-11 : tie.Need-returns-11
 unfolding premises otherPremises ruleOf
-returns-11 c = chosen (c .before .before .before .before .args .value) (c .before .before .before .before .args .claim) 10 (c .before .match .keys11) (c .of-other-kind2 .ensures _ (c .before .before .before .before .pre .prepared .formed)) (λ policy g j. (tt, refl))
+returns-11 c = chosen (c .before .before .before .before .pre) 10 (c .before .match .keys11) (c .of-other-kind2 .ensures _ (c .before .before .before .before .pre .prepared .formed)) (λ policy g j. (tt, refl))
 
 same-length-5 : tie.Need-same-length-5
 same-length-5 c = search needs
 
 returns-12 : tie.Need-returns-12
 unfolding ruleOf
-returns-12 c = chosen (c .before .before .before .before .before .args .value) (c .before .before .before .before .before .args .claim) 11 (c .before .before .match .keys12) (c .congruent .ensures) (λ policy g j. (tt, refl))
+returns-12 c = chosen (c .before .before .before .before .before .pre) 11 (c .before .before .match .keys12) (c .congruent .ensures) (λ policy g j. (tt, refl))
 
 same-length-6 : tie.Need-same-length-6
 same-length-6 c = search needs
 
 returns-13 : tie.Need-returns-13
 unfolding ruleOf
-returns-13 c = chosen (c .before .before .before .before .before .before .before .args .value) (c .before .before .before .before .before .before .before .args .claim) 12 (c .before .before .before .before .match .keys13) (c .before .before .same-form .ensures) (λ policy g j. (tt, refl))
+returns-13 c = chosen (c .before .before .before .before .before .before .before .pre) 12 (c .before .before .before .before .match .keys13) (c .before .before .same-form .ensures) (λ policy g j. (tt, refl))
 
 same-length-7 : tie.Need-same-length-7
 same-length-7 c = search needs
 
 returns-14 : tie.Need-returns-14
 unfolding ruleOf
-returns-14 c = chosen (c .before .before .before .before .before .args .value) (c .before .before .before .before .before .args .claim) 13 (c .before .before .match .keys14) (c .from-zero .ensures) (λ policy g j. (tt, refl))
+returns-14 c = chosen (c .before .before .before .before .before .pre) 13 (c .before .before .match .keys14) (c .from-zero .ensures) (λ policy g j. (tt, refl))
 
 same-length-8 : tie.Need-same-length-8
 same-length-8 c = search needs
 
 returns-15 : tie.Need-returns-15
-unfolding ruleOf
-returns-15 c = chosen (c .before .before .before .before .before .args .value) (c .before .before .before .before .before .args .claim) 14 (c .before .before .match .keys15) (c .sums .ensures) (λ policy g j. (tt, refl))
+unfolding premises monotonePremises ruleOf
+returns-15 c = chosen (c .before .before .before .before .before .pre) 14 (c .before .before .match .keys15) (c .monotone .ensures) (λ policy g j. (tt, refl))
 
 same-length-9 : tie.Need-same-length-9
 same-length-9 c = search needs
 
 returns-16 : tie.Need-returns-16
-unfolding ruleOf
-returns-16 c = chosen (c .before .before .before .before .before .args .value) (c .before .before .before .before .before .args .claim) 15 (c .before .before .match .keys16) (c .differences .ensures) (λ policy g j. (tt, refl))
+unfolding premises monotonePremises ruleOf
+returns-16 c = chosen (c .before .before .before .before .before .pre) 15 (c .before .before .match .keys16) (c .monotone2 .ensures) (λ policy g j. (tt, refl))
 
 same-length-10 : tie.Need-same-length-10
 same-length-10 c = search needs
 
 returns-17 : tie.Need-returns-17
 unfolding ruleOf
-returns-17 c = chosen (c .before .before .before .before .before .args .value) (c .before .before .before .before .before .args .claim) 16 (c .before .before .match .keys17) (c .successor .ensures) (λ policy g j. (tt, refl))
+returns-17 c = chosen (c .before .before .before .before .before .pre) 16 (c .before .before .match .keys17) (c .successor .ensures) (λ policy g j. (tt, refl))
 
 same-length-11 : tie.Need-same-length-11
 same-length-11 c = search needs
 
 returns-18 : tie.Need-returns-18
 unfolding ruleOf
-returns-18 c = chosen (c .before .before .before .before .before .before .before .args .value) (c .before .before .before .before .before .before .before .args .claim) 17 (c .before .before .before .before .match .keys18) (c .before .before .within-successor .ensures) (λ policy g j. (tt, refl))
+returns-18 c = chosen (c .before .before .before .before .before .before .before .pre) 17 (c .before .before .before .before .match .keys18) (c .before .before .within-successor .ensures) (λ policy g j. (tt, refl))
 
 same-length-12 : tie.Need-same-length-12
 same-length-12 c = search needs
 
 returns-19 : tie.Need-returns-19
 unfolding ruleOf
-returns-19 c = chosen (c .before .before .before .before .before .before .before .args .value) (c .before .before .before .before .before .before .before .args .claim) 18 (c .before .before .before .before .match .keys19) (c .before .before .no-overflow .ensures) (λ policy g j. (tt, refl))
+returns-19 c = chosen (c .before .before .before .before .before .before .before .pre) 18 (c .before .before .before .before .match .keys19) (c .before .before .no-overflow .ensures) (λ policy g j. (tt, refl))
 
 returns-20 : tie.Need-returns-20
 unfolding ruleOf
-returns-20 c = chosen (c .before .before .before .before .args .value) (c .before .before .before .before .args .claim) 19 (c .before .match .keys20) (c .strict .ensures _ (c .before .before .before .before .pre .prepared .formed)) (λ policy g j. (tt, refl))
+returns-20 c = chosen (c .before .before .before .before .pre) 19 (c .before .match .keys20) (c .strict .ensures _ (c .before .before .before .before .pre .prepared .formed)) (λ policy g j. (tt, refl))
 
 returns-21 : tie.Need-returns-21
 unfolding premises otherPremises ruleOf
-returns-21 c = chosen (c .before .before .before .before .args .value) (c .before .before .before .before .args .claim) 20 (c .before .match .keys21) (c .of-other-kind3 .ensures _ (c .before .before .before .before .pre .prepared .formed)) (λ policy g j. (tt, refl))
+returns-21 c = chosen (c .before .before .before .before .pre) 20 (c .before .match .keys21) (c .of-other-kind3 .ensures _ (c .before .before .before .before .pre .prepared .formed)) (λ policy g j. (tt, refl))
 
 returns-22 : tie.Need-returns-22
 unfolding premises symmetricPremises ruleOf
-returns-22 c = chosen (c .before .before .before .before .args .value) (c .before .before .before .before .args .claim) 21 (c .before .match .keys22) (c .symmetric2 .ensures _ (c .before .before .before .before .pre .prepared .formed)) (λ policy g j. (tt, refl))
+returns-22 c = chosen (c .before .before .before .before .pre) 21 (c .before .match .keys22) (c .symmetric2 .ensures _ (c .before .before .before .before .pre .prepared .formed)) (λ policy g j. (tt, refl))
 
 same-length-13 : tie.Need-same-length-13
 same-length-13 c = search needs
 
 returns-23 : tie.Need-returns-23
 unfolding ruleOf
-returns-23 c = chosen (c .before .before .before .before .before .before .before .args .value) (c .before .before .before .before .before .before .before .args .claim) 22 (c .before .before .before .before .match .keys23) (c .before .before .readable .ensures) (λ policy g j. (j .regions, refl))
+returns-23 c = chosen (c .before .before .before .before .before .before .before .pre) 22 (c .before .before .before .before .match .keys23) (c .before .before .in-region .ensures) (λ policy g j. (j .regions, reads-region policy g _ _))
 
 same-length-14 : tie.Need-same-length-14
 same-length-14 c = search needs
 
 returns-24 : tie.Need-returns-24
 unfolding ruleOf
-returns-24 c = chosen (c .before .before .before .before .before .before .before .args .value) (c .before .before .before .before .before .before .before .args .claim) 23 (c .before .before .before .before .match .keys24) (c .before .before .writable .ensures) (λ policy g j. (j .regions, refl))
+returns-24 c = chosen (c .before .before .before .before .before .before .before .pre) 23 (c .before .before .before .before .match .keys24) (c .before .before .in-region2 .ensures) (λ policy g j. (j .regions, writes-region policy g _ _))
 
 returns-25 : tie.Need-returns-25
 unfolding ruleOf
-returns-25 c = chosen (c .before .before .before .before .args .value) (c .before .before .before .before .args .claim) 24 (last-rule (c .before .before .before .before .pre) (c .before .match .rest)) (c .contradicted .ensures _ (c .before .before .before .before .pre .prepared .formed) _) (λ policy g j. (tt, refl))
+returns-25 c = chosen (c .before .before .before .before .pre) 24 (last-rule (c .before .before .before .before .pre) (c .before .match .rest)) (c .contradicted .ensures _ (c .before .before .before .before .pre .prepared .formed) _) (λ policy g j. (tt, refl))
 
 pub planned-spec : {M : Type 1} → statement M
 planned-spec =
@@ -242,16 +242,16 @@ planned-spec =
     congruent-requires
     same-form-requires
     from-zero-requires
-    sums-requires
-    differences-requires
+    monotone-requires
+    monotone-requires-2
     successor-requires
     within-successor-requires
     no-overflow-requires
     strict-requires
     of-other-kind-requires-3
     symmetric-requires-2
-    readable-requires
-    writable-requires
+    in-region-requires
+    in-region-requires-2
     contradicted-requires
     same-length
     returns

@@ -1,5 +1,5 @@
 use borrow.Author.Needs.{needs}
-use Rattle.derivation.proofs.RuleLaws.{formed-at, no-sides, reflexive-differs, reflexive-fits, sides-told}
+use Rattle.derivation.proofs.RuleLaws.{failed, formed-at, no-parts, no-sides, passes-test, sides-told}
 use Rattle.derivation.specs.Plan.{reflexivePremises}
 use Rattle.derivation.proofs.rules.reflexive.Statement.{statement}
 use Rattle.derivation.proofs.rules.reflexive.Tie as tie
@@ -30,10 +30,12 @@ unfit-requires-2 : tie.Need-unfit-requires-2
 unfit-requires-2 c κs = search needs
 
 returns-2 : tie.Need-returns-2
-returns-2 c = reflexive-fits (c .before .before .before .before .before .before .before .before .pre .0) (c .before .before .before .before .before .before .before .before .pre .1) (sides-told (c .before .before .before .before .before .before .sides .ensures) (c .before .before .before .before .a .given .1)) (c .before .before .same .ensures) (c .before .if1 .taken) (c .none .ensures)
+unfolding reflexivePremises
+returns-2 c = passes-test _ (c .before .before .before .before .before .before .before .before .pre .0) (sides-told (c .before .before .before .before .before .before .sides .ensures) (c .before .before .before .before .a .given .1)) (c .before .before .same .ensures) (c .before .if1 .taken) (c .none .ensures)
 
 returns-3 : tie.Need-returns-3
-returns-3 c = reflexive-differs (c .before .before .before .before .before .before .before .before .pre .0) (c .before .before .before .before .before .before .before .before .pre .1) (sides-told (c .before .before .before .before .before .before .sides .ensures) (c .before .before .before .before .a .given .1)) (c .before .before .same .ensures) (c .before .if1 .left) (c .unfit2 .ensures)
+unfolding reflexivePremises
+returns-3 c = no-parts _ _ (c .before .before .before .before .before .before .before .before .pre .0) (sides-told (c .before .before .before .before .before .before .sides .ensures) (c .before .before .before .before .a .given .1)) (failed _ (c .before .before .same .ensures) (c .before .if1 .left)) (c .unfit2 .ensures)
 
 pub reflexive-spec : {M : Type 1} → statement M
 reflexive-spec =

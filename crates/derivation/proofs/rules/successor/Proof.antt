@@ -1,5 +1,5 @@
 use borrow.Author.Needs.{needs}
-use Rattle.derivation.proofs.RuleLaws.{formed-at, no-sides, operands-told, sides-told, successor-differs, successor-fits, successor-left}
+use Rattle.derivation.proofs.RuleLaws.{failed, formed-at, no-more-parts, no-parts, no-sides, operands-told, sides-told, successor-fits}
 use Rattle.model.specs.Rule.{premises}
 use Rattle.terms.proofs.Table.{part}
 use Rattle.derivation.proofs.rules.successor.Statement.{statement}
@@ -21,8 +21,8 @@ returns : tie.Need-returns
 unfolding premises
 returns c = no-sides _ (c .before .before .before .before .before .pre .0) (sides-told (c .before .before .before .sides .ensures) (c .before .enum-told .given .1)) (c .unfit .ensures)
 
-sum-operands-requires : tie.Need-sum-operands-requires
-sum-operands-requires c κs = formed-at (c .before .before .before .before .before .pre .0) (sides-told (c .before .before .before .sides .ensures) (c .before .left .given .1) .below _ (c .before .before .before .before .before .pre .1) .0)
+operands-requires : tie.Need-operands-requires
+operands-requires c κs = formed-at (c .before .before .before .before .before .pre .0) (sides-told (c .before .before .before .sides .ensures) (c .before .left .given .1) .below _ (c .before .before .before .before .before .pre .1) .0)
 
 enum-known-a : tie.Need-enum-known-a
 enum-known-a c = search needs
@@ -34,10 +34,11 @@ unfit-requires-2 : tie.Need-unfit-requires-2
 unfit-requires-2 c κs = search needs
 
 returns-2 : tie.Need-returns-2
-returns-2 c = successor-left (c .before .before .before .before .before .before .before .before .before .pre .0) (c .before .before .before .before .before .before .before .before .before .pre .1) (sides-told (c .before .before .before .before .before .before .before .sides .ensures) (c .before .before .before .before .before .left .given .1)) (operands-told (c .before .before .before .sum-operands .ensures) (c .before .enum-told2 .given .1)) (c .unfit2 .ensures)
+unfolding premises
+returns-2 c = no-parts _ _ (c .before .before .before .before .before .before .before .before .before .pre .0) (sides-told (c .before .before .before .before .before .before .before .sides .ensures) (c .before .before .before .before .before .left .given .1)) (operands-told (c .before .before .before .operands .ensures) (c .before .enum-told2 .given .1) .is) (c .unfit2 .ensures)
 
 is-constant-requires : tie.Need-is-constant-requires
-is-constant-requires c κs = part (formed-at (c .before .before .before .before .before .before .before .before .before .pre .0) (sides-told (c .before .before .before .before .before .before .before .sides .ensures) (c .before .before .before .before .before .left .given .1) .below _ (c .before .before .before .before .before .before .before .before .before .pre .1) .0)) (operands-told (c .before .before .before .sum-operands .ensures) (c .before .a .given .1) .below .1)
+is-constant-requires c κs = part (formed-at (c .before .before .before .before .before .before .before .before .before .pre .0) (sides-told (c .before .before .before .before .before .before .before .sides .ensures) (c .before .before .before .before .before .left .given .1) .below _ (c .before .before .before .before .before .before .before .before .before .pre .1) .0)) (operands-told (c .before .before .before .operands .ensures) (c .before .a .given .1) .below .1)
 
 compared-requires : tie.Need-compared-requires
 compared-requires c κs = search needs
@@ -49,10 +50,11 @@ unfit-requires-3 : tie.Need-unfit-requires-3
 unfit-requires-3 c κs = search needs
 
 returns-3 : tie.Need-returns-3
-returns-3 c = successor-fits (c .before .before .before .before .before .before .before .before .before .before .before .before .before .pre .0) (c .before .before .before .before .before .before .before .before .before .before .before .before .before .pre .1) (sides-told (c .before .before .before .before .before .before .before .before .before .before .before .sides .ensures) (c .before .before .before .before .before .before .before .before .before .left .given .1)) (operands-told (c .before .before .before .before .before .before .before .sum-operands .ensures) (c .before .before .before .before .before .a .given .1)) (c .before .before .before .is-constant .ensures) (c .before .before .if1 .taken) (c .before .compared .ensures) (c .one .ensures)
+returns-3 c = successor-fits (c .before .before .before .before .before .before .before .before .before .before .before .before .before .pre .0) (c .before .before .before .before .before .before .before .before .before .before .before .before .before .pre .1) (sides-told (c .before .before .before .before .before .before .before .before .before .before .before .sides .ensures) (c .before .before .before .before .before .before .before .before .before .left .given .1)) (operands-told (c .before .before .before .before .before .before .before .operands .ensures) (c .before .before .before .before .before .a .given .1)) (c .before .before .before .is-constant .ensures) (c .before .before .if1 .taken) (c .before .compared .ensures) (c .one .ensures)
 
 returns-4 : tie.Need-returns-4
-returns-4 c = successor-differs (c .before .before .before .before .before .before .before .before .before .before .before .before .pre .0) (c .before .before .before .before .before .before .before .before .before .before .before .before .pre .1) (sides-told (c .before .before .before .before .before .before .before .before .before .before .sides .ensures) (c .before .before .before .before .before .before .before .before .left .given .1)) (operands-told (c .before .before .before .before .before .before .sum-operands .ensures) (c .before .before .before .before .a .given .1)) (c .before .before .is-constant .ensures) (c .before .if1 .left) (c .unfit3 .ensures)
+unfolding premises
+returns-4 c = no-more-parts _ _ _ (c .before .before .before .before .before .before .before .before .before .before .before .before .pre .0) (sides-told (c .before .before .before .before .before .before .before .before .before .before .sides .ensures) (c .before .before .before .before .before .before .before .before .left .given .1)) (operands-told (c .before .before .before .before .before .before .operands .ensures) (c .before .before .before .before .a .given .1) .is) (failed _ (c .before .before .is-constant .ensures) (c .before .if1 .left)) (c .unfit3 .ensures)
 
 pub successor-spec : {M : Type 1} → statement M
 successor-spec =
@@ -63,7 +65,7 @@ successor-spec =
     enum-told
     unfit-requires
     returns
-    sum-operands-requires
+    operands-requires
     enum-known-a
     enum-told-2
     unfit-requires-2
