@@ -56,6 +56,9 @@ parts-difference a w x y v l m h =
     ∙ add-cong (a + w * d) v ((s + w) * y) (0 * y) h (mul-cong (s + w) 0 y (sub-plain 0 w l))
     ∙ ap (λ z. z % 2 ^ 32) (let e : v + 0 * y ≡ v = omega arith in e)
 
+pub product-fits : (a b : ℕ) → a < 2 ^ 32 → b < 2 ^ 32 → a * b < 2 ^ 64
+product-fits a b h k = let m : a * b ≤ 4294967295 * 4294967295 = mul-le-mul {n₁ = a} {m₁ = b} {n₂ = 4294967295} {m₂ = 4294967295} (omega arith) (omega arith) in omega arith
+
 -- ---- the form of a closed term: its value is the constant, and all else is zero
 constant-eval : (t : Term) → constantOf t ≡ eval (λ v. 0) t
 unfolding constantOf eval
@@ -180,7 +183,15 @@ module _ {ws us : List ℕ} {n : ℕ} {want : ℕ → ℕ} (g : Weighed ws us n 
           let v : formAt constantWord (termAt ws k) ≡ valueAt us k = closed-here (termAt ws k) c ∙ sym (t .known k h .value) ∙ sym (value-kept k o) in
           area-more constantWord (w * valueAt us k % 2 ^ 32) (λ p. w * formAt p (termAt ws k)) (omega arith) (omega (arith, t .room, g .long)) d (rw v (omega arith)) (λ p l m. rw (closed-else (termAt ws k) c p l m) (omega arith))
 
--- ---- node n - 1 of the words with weights: its weight is given to its parts
+-- ---- the ways out of `give`
+module _ (us : List ℕ) (k w : ℕ) {b : Bool} {value x : ℕ} {vs : List ℕ} (h : b ≡ closedAt us k) (v : value ≡ valueAt us k) where
+  pub given-closed : b ≡ true → x ≡ w * value % 2 ^ 32 → vs ≡ set us constantWord (addW (getD us constantWord 0) x) → vs ≡ givenTo (closedAt us k) us k w
+  given-closed l p e = rw (← h, l, e, p, v)
+
+  pub given-open : b ≡ false → x ≡ addW value w → vs ≡ set us (place k + 1) x → vs ≡ givenTo (closedAt us k) us k w
+  given-open l p e = rw (← h, l, e, p, v)
+
+-- ---- node k, the last with a weight
 -- an open node reads as it does without weights
 by-tag : (t p v w : ℕ) → t ≢ 0 → nodeOfTag t p v ≡ nodeOfTag t p w
 by-tag zero p v w h = absurd (h refl)
@@ -404,14 +415,3 @@ module _ {ws us vs : List ℕ} {i j m : ℕ} (c : Comparable ws i j constantWord
     where
       spent : Weighed ws xs 0 (wanted (termAt ws i) (termAt ws j))
       spent = a .weighed ws (wanted (termAt ws i) (termAt ws j)) formed-both loaded
-
--- ---- the ways out of `give`
-module _ (us : List ℕ) (k w : ℕ) {b : Bool} {value x : ℕ} {vs : List ℕ} (h : b ≡ closedAt us k) (v : value ≡ valueAt us k) where
-  pub given-closed : b ≡ true → x ≡ w * value % 2 ^ 32 → vs ≡ set us constantWord (addW (getD us constantWord 0) x) → vs ≡ givenTo (closedAt us k) us k w
-  given-closed l p e = rw (← h, l, e, p, v)
-
-  pub given-open : b ≡ false → x ≡ addW value w → vs ≡ set us (place k + 1) x → vs ≡ givenTo (closedAt us k) us k w
-  given-open l p e = rw (← h, l, e, p, v)
-
-pub product-fits : (a b : ℕ) → a < 2 ^ 32 → b < 2 ^ 32 → a * b < 2 ^ 64
-product-fits a b h k = let m : a * b ≤ 4294967295 * 4294967295 = mul-le-mul {n₁ = a} {m₁ = b} {n₂ = 4294967295} {m₂ = 4294967295} (omega arith) (omega arith) in omega arith
