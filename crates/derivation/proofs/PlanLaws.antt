@@ -1,7 +1,8 @@
 -- Laws of the choice among the rules: one for each arm. Assumes nothing.
 use mathlib.Core.Path.{_≡_, refl, sym, ap, _∙_}
 use mathlib.Core.List.{List}
-use Prim.Native.Nat.{ℕ, zero, suc, _<_, _≤_}
+use Prim.Native.Nat.{ℕ, zero, suc, _-_, _<_, _≤_}
+use native.Mathlib.Decide.{ℕ-discrete}
 use native.Mathlib.Omega.{arith}
 use lib.ListN.{getElem?}
 use Rattle.model.specs.Result.{Fit, _>>=_, check}
@@ -24,13 +25,13 @@ abbrev NoneBelow : ℕ → ℕ → Type 0
 NoneBelow zero n = Unit {0}
 NoneBelow (suc k) n = NoneBelow k n × (n ≡ k → ⊥)
 
-none-below : (k n : ℕ) → NoneBelow k n → k ≤ n
+pub none-below : (k n : ℕ) → NoneBelow k n → k ≤ n
 none-below zero n h = omega arith
 none-below (suc k) n h = omega (arith, none-below k n (h .0), h .1)
 
 module _ {ws words : List ℕ} {scope : Scope} {number v : ℕ} {claim : Claim} {top : ℕ} (y : Plannable ws words scope number v claim top) where
-  pub last-rule : NoneBelow 24 number → number ≡ 24
-  last-rule h = omega (arith, none-below 24 number h, y .known)
+  pub last-rule : 24 ≤ number → number ≡ 24
+  last-rule h = omega (arith, y .known)
 
   -- the argument of a rule of number n
   pub argument-below : (n : ℕ) → number ≡ n → Argument ≡ formOf (getElem? rules n) → v < top
@@ -44,14 +45,22 @@ module _ {ws words : List ℕ} {scope : Scope} {number v : ℕ} {claim : Claim} 
 
 -- rules 22 and 23 are one rule for two rights
 module _ (policy : Policy) (g : Goal) (j : ℕ) where
-  pub reads-region : (c : Claimed) → regionAsks 1 j c policy g ≡ premises policy g (in-readable-region j) c
+  reads-region : (c : Claimed) → regionAsks 1 j c policy g ≡ premises policy g (in-readable-region j) c
   unfolding regionAsks premises readableOf _>>=_ check
   reads-region (atom a) = refl
   reads-region (readable t) = refl
   reads-region (writable t) = refl
 
-  pub writes-region : (c : Claimed) → regionAsks 2 j c policy g ≡ premises policy g (in-writable-region j) c
+  writes-region : (c : Claimed) → regionAsks 2 j c policy g ≡ premises policy g (in-writable-region j) c
   unfolding regionAsks premises writableOf _>>=_ check
   writes-region (atom a) = refl
   writes-region (readable t) = refl
   writes-region (writable t) = refl
+
+  pub asks-region : {right number : ℕ} (ws : List ℕ) (c : Claimed) → (22 ≤ number) × (number < 24) → right ≡ number - 21 → regionAsks right j c policy g ≡ premises policy g (ruleOf ws number j) c
+  unfolding ruleOf
+  asks-region {right} {number} ws c h e = go (ℕ-discrete number 22)
+    where
+      go : Dec (number ≡ 22) → regionAsks right j c policy g ≡ premises policy g (ruleOf ws number j) c
+      go (yes d) = let r : right ≡ 1 = omega arith in rw (r, d) (reads-region c)
+      go (no d) = let r : right ≡ 2 = omega arith in let n : number ≡ 23 = omega arith in rw (r, n) (writes-region c)

@@ -13,7 +13,7 @@ use terms::Closed;
 ghost use mathlib.Core.Path.{_≡_};
 ghost use mathlib.Core.Bool.{true, false};
 ghost use mathlib.Core.List.{List};
-ghost use Prim.Native.Nat.{ℕ, _<_, _≤_};
+ghost use Prim.Native.Nat.{ℕ, _-_, _<_, _≤_};
 ghost use lib.ListN.{length};
 ghost use Rattle.model.specs.Goals.{Claim as Claimed};
 ghost use Rattle.model.specs.Rule.{assumption, evaluation, congruence, linear, zero-at-most, successor-at-most, below-successor, sum-no-overflow, less-of-at-most, contradiction};
@@ -358,6 +358,14 @@ fn strict(claim: Claim, top: usize) -> Plan
     )
 }
 
+// The right that rule 22, 1 to read, or rule 23, 2 to write, goes by.
+fn right_of(number: usize) -> u32
+    requires { ⌜ (22 ≤ number) × (number < 24) ⌝ }
+    ensures { λ r. ⌜ r ≡ number - 21 ⌝ }
+{
+    (number - 21) as u32
+}
+
 // Rules 22 and 23: readable(t), writable(t), from base ≤ t, t < base plus length, region j having the right, 1 to read or 2 to write.
 // Two new nodes.
 fn in_region(
@@ -447,8 +455,15 @@ pub fn planned(
         19 => strict(claim, top),
         20 => of_other_kind(claim, unequal, less, top),
         21 => symmetric(claim, unequal, top),
-        22 => in_region(regions, scope.regions, ws, claim, 1, value, top),
-        23 => in_region(regions, scope.regions, ws, claim, 2, value, top),
+        22 | 23 => in_region(
+            regions,
+            scope.regions,
+            ws,
+            claim,
+            right_of(number),
+            value,
+            top,
+        ),
         _ => contradicted(value, top),
     }
 }

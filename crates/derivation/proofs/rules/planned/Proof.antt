@@ -1,9 +1,10 @@
-use borrow.Author.Needs.{needs}
 use mathlib.Core.Path.{refl}
-use Rattle.derivation.proofs.PlanLaws.{argument-below, chosen, last-rule, reads-region, writes-region}
+use Rattle.derivation.proofs.PlanLaws.{argument-below, asks-region, chosen, last-rule, none-below}
 use Rattle.derivation.specs.Opening.{ruleOf}
 use Rattle.derivation.specs.Plan.{monotonePremises, otherPremises, reflexivePremises, symmetricPremises, throughPremises}
 use Rattle.model.specs.Rule.{premises}
+use native.Mathlib.Omega.{arith}
+use borrow.Author.Needs.{needs}
 use Rattle.derivation.proofs.rules.planned.Statement.{statement}
 use Rattle.derivation.proofs.rules.planned.Tie as tie
 
@@ -73,14 +74,14 @@ of-other-kind-requires-3 c κs = search needs
 symmetric-requires-2 : tie.Need-symmetric-requires-2
 symmetric-requires-2 c κs = search needs
 
-in-region-requires : tie.Need-in-region-requires
-in-region-requires c κs = search needs
+right-of-requires : tie.Need-right-of-requires
+right-of-requires c κs = (none-below 22 _ (c .before .before .match .rest), c .before .if1 .taken)
 
-in-region-requires-2 : tie.Need-in-region-requires-2
-in-region-requires-2 c κs = search needs
+in-region-requires : tie.Need-in-region-requires
+in-region-requires c κs = (c .before .before .before .before .before .before .pre .regions, (c .before .before .before .before .before .before .pre .prepared .formed, (c .before .before .before .before .before .before .pre .space, c .before .before .before .before .before .before .pre .below)))
 
 contradicted-requires : tie.Need-contradicted-requires
-contradicted-requires c κs = argument-below (c .before .before .before .pre) 24 (last-rule (c .before .before .before .pre) (c .match .rest)) refl
+contradicted-requires c κs = argument-below (c .before .before .before .before .pre) 24 (last-rule (c .before .before .before .before .pre) (c .if1 .left)) refl
 
 same-length : tie.Need-same-length
 same-length c = search needs
@@ -210,19 +211,11 @@ same-length-13 : tie.Need-same-length-13
 same-length-13 c = search needs
 
 returns-23 : tie.Need-returns-23
-unfolding ruleOf
-returns-23 c = chosen (c .before .before .before .before .before .before .before .pre) 22 (c .before .before .before .before .match .keys23) (c .before .before .in-region .ensures) (λ policy g j. (j .regions, reads-region policy g _ _))
-
-same-length-14 : tie.Need-same-length-14
-same-length-14 c = search needs
+returns-23 c = chosen (c .before .before .before .before .before .before .before .before .before .pre) _ refl (c .before .before .in-region .ensures) (λ policy g j. (j .regions, asks-region policy g _ _ _ (none-below 22 _ (c .before .before .before .before .before .before .match .rest), c .before .before .before .before .before .if1 .taken) (c .before .before .before .right-of .ensures)))
 
 returns-24 : tie.Need-returns-24
 unfolding ruleOf
-returns-24 c = chosen (c .before .before .before .before .before .before .before .pre) 23 (c .before .before .before .before .match .keys24) (c .before .before .in-region2 .ensures) (λ policy g j. (j .regions, writes-region policy g _ _))
-
-returns-25 : tie.Need-returns-25
-unfolding ruleOf
-returns-25 c = chosen (c .before .before .before .before .pre) 24 (last-rule (c .before .before .before .before .pre) (c .before .match .rest)) (c .contradicted .ensures _ (c .before .before .before .before .pre .prepared .formed) _) (λ policy g j. (tt, refl))
+returns-24 c = chosen (c .before .before .before .before .before .pre) 24 (last-rule (c .before .before .before .before .before .pre) (c .before .if1 .left)) (c .contradicted .ensures _ (c .before .before .before .before .before .pre .prepared .formed) _) (λ policy g j. (tt, refl))
 
 pub planned-spec : {M : Type 1} → statement M
 planned-spec =
@@ -250,8 +243,8 @@ planned-spec =
     strict-requires
     of-other-kind-requires-3
     symmetric-requires-2
+    right-of-requires
     in-region-requires
-    in-region-requires-2
     contradicted-requires
     same-length
     returns
@@ -289,6 +282,4 @@ planned-spec =
     returns-22
     same-length-13
     returns-23
-    same-length-14
-    returns-24
-    returns-25)
+    returns-24)
