@@ -1,7 +1,6 @@
 use borrow.Author.Needs.{needs}
 use Rattle.terms.proofs.alike.Statement.{statement}
 use Rattle.terms.proofs.alike.Tie as tie
-use Rattle.terms.proofs.alike.Reads as reads
 
 marks-requires : tie.Need-marks-requires
 marks-requires c κs = search needs

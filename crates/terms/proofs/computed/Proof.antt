@@ -3,7 +3,6 @@ use native.Mathlib.Omega.{arith}
 use borrow.Author.Needs.{needs}
 use Rattle.terms.proofs.computed.Statement.{statement}
 use Rattle.terms.proofs.computed.Tie as tie
-use Rattle.terms.proofs.computed.Reads as reads
 
 marks-requires : tie.Need-marks-requires
 marks-requires c κs = search needs

@@ -5,7 +5,6 @@ use Rattle.terms.proofs.Walks.{closed-value, open-value}
 use borrow.Author.Needs.{needs}
 use Rattle.terms.proofs.evaluate.Statement.{statement}
 use Rattle.terms.proofs.evaluate.Tie as tie
-use Rattle.terms.proofs.evaluate.Reads as reads
 
 marks-requires : tie.Need-marks-requires
 marks-requires c κs = search needs

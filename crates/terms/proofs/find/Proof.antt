@@ -5,7 +5,6 @@ use native.Mathlib.Omega.{arith}
 use borrow.Author.Needs.{needs}
 use Rattle.terms.proofs.find.Statement.{statement}
 use Rattle.terms.proofs.find.Tie as tie
-use Rattle.terms.proofs.find.Reads as reads
 
 slot-requires : tie.Need-slot-requires
 slot-requires c κs = search needs

@@ -3,7 +3,6 @@ use native.Mathlib.Omega.{arith}
 use borrow.Author.Needs.{needs}
 use Rattle.terms.proofs.joined.Statement.{statement}
 use Rattle.terms.proofs.joined.Tie as tie
-use Rattle.terms.proofs.joined.Reads as reads
 
 size-requires : tie.Need-size-requires
 size-requires c κs = search needs

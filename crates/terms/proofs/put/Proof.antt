@@ -3,7 +3,6 @@ use native.Mathlib.Omega.{arith}
 use borrow.Author.Needs.{needs}
 use Rattle.terms.proofs.put.Statement.{statement}
 use Rattle.terms.proofs.put.Tie as tie
-use Rattle.terms.proofs.put.Reads as reads
 
 find-requires : tie.Need-find-requires
 find-requires c κs = search needs

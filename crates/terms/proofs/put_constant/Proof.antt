@@ -3,7 +3,6 @@ use native.Mathlib.Omega.{arith}
 use borrow.Author.Needs.{needs}
 use Rattle.terms.proofs.put_constant.Statement.{statement}
 use Rattle.terms.proofs.put_constant.Tie as tie
-use Rattle.terms.proofs.put_constant.Reads as reads
 
 put-requires : tie.Need-put-requires
 put-requires c κs = (c .before .before .pre .0, (c .before .before .pre .1, (fits-constant _ _ (omega arith), omega arith)))

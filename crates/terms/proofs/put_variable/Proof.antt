@@ -3,7 +3,6 @@ use native.Mathlib.Omega.{arith}
 use borrow.Author.Needs.{needs}
 use Rattle.terms.proofs.put_variable.Statement.{statement}
 use Rattle.terms.proofs.put_variable.Tie as tie
-use Rattle.terms.proofs.put_variable.Reads as reads
 
 put-requires : tie.Need-put-requires
 put-requires c κs = (c .before .before .pre .0, (c .before .before .pre .1 .0, (fits-variable _ _ (c .before .before .pre .1 .1), omega arith)))

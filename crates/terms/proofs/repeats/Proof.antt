@@ -1,7 +1,6 @@
 use borrow.Author.Needs.{needs}
 use Rattle.terms.proofs.repeats.Statement.{statement}
 use Rattle.terms.proofs.repeats.Tie as tie
-use Rattle.terms.proofs.repeats.Reads as reads
 
 mul-at : tie.Need-mul-at
 mul-at c = search needs

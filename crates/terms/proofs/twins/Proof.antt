@@ -1,7 +1,6 @@
 use borrow.Author.Needs.{needs}
 use Rattle.terms.proofs.twins.Statement.{statement}
 use Rattle.terms.proofs.twins.Tie as tie
-use Rattle.terms.proofs.twins.Reads as reads
 
 marks-requires : tie.Need-marks-requires
 marks-requires c κs = search needs
