@@ -2,7 +2,6 @@
 mod scanning;
 
 use scanning::Scanned;
-ghost use mathlib.Core.Path.{_≡_};
 ghost use Prim.Native.Nat.{_≤_, max};
 ghost use lib.ListN.{length};
 ghost use Rattle.model.specs.Expression.{expressionAt, atomAt, atomsAt};

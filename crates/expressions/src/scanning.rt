@@ -1,5 +1,4 @@
 // The recursive reader of an expression's nodes. The bytes run to `end`, and variables are below `limit`.
-ghost use mathlib.Core.Path.{_≡_};
 ghost use Prim.Native.Nat.{_≤_, _<_};
 ghost use lib.ListN.{length};
 ghost use Rattle.model.specs.Expression.{two-byte-variable};

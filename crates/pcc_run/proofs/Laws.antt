@@ -1,5 +1,5 @@
 -- What a start file's bytes stand for, and parts of arrays. Assumes nothing.
-use Prim.Native.Nat.{ℕ, _≤_, _<_, min}
+use Prim.Native.Nat.{ℕ, _≤_, _<_}
 use mathlib.Core.Path.{_≡_, sym, ap, _∙_}
 use mathlib.Core.List.{List}
 use native.Mathlib.Omega.{arith}
@@ -7,7 +7,6 @@ use borrow.Author.Tests.{lt-ltb, le-ltb}
 use lib.ListN.{length, take, length-take}
 use Rattle.model.specs.Word.{le32}
 use Rattle.model.specs.Runner.{Run, runOf}
-use Rattle.model.specs.declared.Outcome.{Outcome}
 use Rattle.console.specs.Words.{wordsFrom}
 use Rattle.pcc_run.specs.Start.{budgetIn, registerWords, memoryWords, registersIn, memoryIn}
 

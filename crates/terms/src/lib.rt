@@ -5,12 +5,12 @@ pub mod reader;
 
 ghost use mathlib.Core.Path.{_≡_};
 ghost use mathlib.Core.Bool.{_&&_};
-ghost use Prim.Native.Nat.{suc, _+_, _-_, _*_, _/_, _%_, _≤_, _<_};
+ghost use Prim.Native.Nat.{suc, _+_, _*_, _/_, _%_, _≤_, _<_};
 ghost use lib.ListN.{length, set};
 ghost use lib.Dec.{eqb, leb};
 ghost use Rattle.model.specs.Term.{constant, variable, sum, difference, eqTerm, size as sizeOf};
 ghost use Rattle.terms.specs.Workspace.{mostVariables, hintBase, hints, stored};
-ghost use Rattle.terms.specs.Table.{low as lowOf, high as highOf, partsAt, valueAt, marksAt, closedAt, viewOf, termAt, termOf, capped, valueOf, factsOf, place, Formed, Space, Put, Fits, Twinned};
+ghost use Rattle.terms.specs.Table.{low as lowOf, high as highOf, partsAt, valueAt, marksAt, closedAt, viewOf, termAt, termOf, capped, valueOf, place, Formed, Space, Put, Fits, Twinned};
 ghost use Rattle.terms.specs.Reader.{operationOf};
 ghost use Rattle.terms.specs.Closed.{closedValue};
 
@@ -33,6 +33,12 @@ const TABLE: usize = 1560;
 
 // Where the hints begin.
 const HINTS: usize = 15360;
+
+// The facts of a constant: tag 0, closed, one node.
+const CONSTANT: u32 = 12;
+
+// The facts of a variable: tag 1, not closed, one node.
+const VARIABLE: u32 = 9;
 
 // ---- words
 
@@ -133,7 +139,7 @@ fn store(ws: &mut [u32], at: usize, a: u32, b: u32, c: u32)
     ws[at + 2] = c;
 }
 
-// Where the hint for a node's words stands.
+// Where the hint for a node's words stands: any mixture of them will do.
 fn slot(parts: u32, value: u32, facts: u32) -> usize
     ensures { λ r. ⌜ (hintBase ≤ r) × (r < hintBase + hints) ⌝ }
 {
@@ -192,7 +198,7 @@ pub fn put_constant(ws: &mut [u32], top: usize, value: u32)
     requires { ⌜ Space (now ws) top 1 ⌝ }
     ensures { λ _. ⌜ Put (now (ws .entry)) (now (ws .exit)) top (constant value) ⌝ }
 {
-    put(ws, top, 0, value, 12);
+    put(ws, top, 0, value, CONSTANT);
 }
 
 // Puts a variable at node top.
@@ -202,7 +208,7 @@ pub fn put_variable(ws: &mut [u32], top: usize, number: u32)
     requires { ⌜ number < mostVariables ⌝ }
     ensures { λ _. ⌜ Put (now (ws .entry)) (now (ws .exit)) top (variable number) ⌝ }
 {
-    put(ws, top, number, 0, 9);
+    put(ws, top, number, 0, VARIABLE);
 }
 
 // A size, or 256 if it is more.

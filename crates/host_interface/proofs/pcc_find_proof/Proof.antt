@@ -1,5 +1,4 @@
 use Rattle.host_interface.proofs.Laws as laws
-use native.Mathlib.Omega.{arith}
 use borrow.Author.Needs.{needs}
 use Rattle.host_interface.proofs.pcc_find_proof.Statement.{statement}
 use Rattle.host_interface.proofs.pcc_find_proof.Tie as tie

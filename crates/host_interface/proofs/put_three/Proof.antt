@@ -1,5 +1,4 @@
 use Rattle.host_interface.proofs.Laws as laws
-use native.Mathlib.Omega.{arith}
 use borrow.Author.Needs.{needs}
 use Rattle.host_interface.proofs.put_three.Statement.{statement}
 use Rattle.host_interface.proofs.put_three.Tie as tie

@@ -1,5 +1,4 @@
 use Rattle.pcc_run.proofs.Laws as laws
-use native.Mathlib.Omega.{arith}
 use borrow.Author.Needs.{needs}
 use Rattle.pcc_run.proofs.budget.Statement.{statement}
 use Rattle.pcc_run.proofs.budget.Tie as tie

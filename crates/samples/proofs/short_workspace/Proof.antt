@@ -1,5 +1,4 @@
 use Rattle.io.proofs.Counting.{counts}
-use native.Mathlib.Omega.{arith}
 use borrow.Author.Needs.{needs}
 use Rattle.samples.proofs.short_workspace.Statement.{statement}
 use Rattle.samples.proofs.short_workspace.Tie as tie

@@ -1,5 +1,4 @@
 use Rattle.io.proofs.Counting.{counts}
-use native.Mathlib.Omega.{arith}
 use borrow.Author.Needs.{needs}
 use Rattle.samples.proofs.show_parts.Statement.{statement}
 use Rattle.samples.proofs.show_parts.Tie as tie

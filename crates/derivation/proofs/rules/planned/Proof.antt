@@ -3,7 +3,6 @@ use Rattle.derivation.proofs.PlanLaws.{argument-below, asks-region, cho
 use Rattle.derivation.specs.Opening.{ruleOf}
 use Rattle.derivation.specs.Plan.{monotonePremises, otherPremises, reflexivePremises, symmetricPremises, throughPremises}
 use Rattle.model.specs.Rule.{premises}
-use native.Mathlib.Omega.{arith}
 use borrow.Author.Needs.{needs}
 use Rattle.derivation.proofs.rules.planned.Statement.{statement}
 use Rattle.derivation.proofs.rules.planned.Tie as tie

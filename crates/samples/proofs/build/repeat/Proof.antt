@@ -1,7 +1,6 @@
 use mathlib.Core.Path.{_≡_}
 use lib.ListN.{length}
 use borrow.Author.Needs.{needs}
-use native.Mathlib.Omega.{arith}
 use Rattle.samples.proofs.build.repeat.Statement.{statement}
 use Rattle.samples.proofs.build.repeat.Tie as tie
 

@@ -1,5 +1,4 @@
 use Rattle.terms.proofs.Building.{pair-sum, pair-difference}
-use native.Mathlib.Omega.{arith}
 use borrow.Author.Needs.{needs}
 use Rattle.terms.proofs.reader.put_pair.Statement.{statement}
 use Rattle.terms.proofs.reader.put_pair.Tie as tie
