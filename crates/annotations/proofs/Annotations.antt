@@ -12,7 +12,7 @@ use borrow.Author.Tests.{le-leb, lt-leb, ltb-true, not-true, not-false}
 use Rattle.model.specs.Result.{Result, stop, value, _>>=_, check, stopAs}
 use Rattle.model.specs.Word.{le16}
 use Rattle.model.specs.Term.{Term}
-use Rattle.model.specs.Atom.{Atom}
+use Rattle.model.specs.Atom.{Atom, mostAtoms}
 use Rattle.model.specs.Field.{ReadError, missing, fault, byteAt, halfAt}
 use Rattle.model.specs.Expression.{registerCount, expressionAt, atomsAt}
 use Rattle.model.specs.Package.{proofStart}
@@ -97,15 +97,15 @@ module _ (bytes : List ℕ) (h : Header) (lowest p end : ℕ) (ends : end ≡ pr
       no-count l = refused _ (rw (ends, le-leb (p + 2) (proofStart h) (omega arith), ← ei, not-false (leb lowest index && ltb index (h .instructions)) t, lt-leb (p + 2 + 1) (proofStart h) (omega arith), annotationFrom))
 
       module _ (three : p + 3 ≤ end) (count : ℕ) (ec : count ≡ getD bytes (p + 2) 0) where
-        pub bad-count : 16 < count → AnnotationRead bytes h lowest p (one.Refused (BadAnnotation (p + 2)))
+        pub bad-count : mostAtoms < count → AnnotationRead bytes h lowest p (one.Refused (BadAnnotation (p + 2)))
         unfolding annotationFrom annotationRefusal halfAt byteAt _>>=_ check stopAs
-        bad-count l = refused _ (rw (le-leb (p + 2) (proofStart h) (omega arith), ← ei, not-false (leb lowest index && ltb index (h .instructions)) t, le-leb (p + 2 + 1) (proofStart h) (omega arith), ← ec, lt-leb count 16 l, annotationFrom))
+        bad-count l = refused _ (rw (le-leb (p + 2) (proofStart h) (omega arith), ← ei, not-false (leb lowest index && ltb index (h .instructions)) t, le-leb (p + 2 + 1) (proofStart h) (omega arith), ← ec, lt-leb count mostAtoms l, annotationFrom))
 
-        module _ (few : count ≤ 16) (r : Reading) (R : Reads end (bodyAt bytes end count (p + 3)) r) where
+        module _ (few : count ≤ mostAtoms) (r : Reading) (R : Reads end (bodyAt bytes end count (p + 3)) r) where
           -- what is left is the body
           by-body : annotationFrom bytes h lowest p ≡ (annotationField bytes h (bodyAt bytes (proofStart h) count (p + 3)) >>= made index)
           unfolding annotationFrom halfAt byteAt bodyAt _>>=_ check stopAs made
-          by-body = rw (le-leb (p + 2) (proofStart h) (omega arith), ← ei, not-false (leb lowest index && ltb index (h .instructions)) t, le-leb (p + 2 + 1) (proofStart h) (omega arith), ← ec, le-leb count 16 few, annotationFrom) (together (annotationRefusal bytes h) index (expressionAt bytes (proofStart h) registerCount (p + 3)) (λ q. atomsAt bytes (proofStart h) registerCount count q))
+          by-body = rw (le-leb (p + 2) (proofStart h) (omega arith), ← ei, not-false (leb lowest index && ltb index (h .instructions)) t, le-leb (p + 2 + 1) (proofStart h) (omega arith), ← ec, le-leb count mostAtoms few, annotationFrom) (together (annotationRefusal bytes h) index (expressionAt bytes (proofStart h) registerCount (p + 3)) (λ q. atomsAt bytes (proofStart h) registerCount count q))
 
           -- the body's reading as the definition has it
           as-defined : Reads (proofStart h) (bodyAt bytes (proofStart h) count (p + 3)) r

@@ -10,7 +10,7 @@ use borrow.Author.Tests.{leb-true, ltb-true}
 use Rattle.model.specs.Result.{stop, value, check, _>>=_}
 use Rattle.model.specs.Word.{le16}
 use Rattle.model.specs.Term.{Term}
-use Rattle.model.specs.Atom.{Atom}
+use Rattle.model.specs.Atom.{Atom, mostAtoms}
 use Rattle.model.specs.Field.{missing, byteAt, halfAt}
 use Rattle.model.specs.Expression.{registerCount, expressionAt, atomsAt}
 use Rattle.model.specs.Package.{proofStart}
@@ -40,7 +40,7 @@ pub record Laid (bytes : List ℕ) (h : Header) (p : ℕ) (a : Annotation) (next
   pub inside : p + 3 ≤ proofStart h
   pub index : a .index ≡ le16 bytes p
   pub below : a .index < h .instructions
-  pub few : getD bytes (p + 2) 0 ≤ 16
+  pub few : getD bytes (p + 2) 0 ≤ mostAtoms
   pub after : ℕ
   pub credit : expressionAt bytes (proofStart h) registerCount (p + 3) ≡ value (a .credit, after)
   pub atoms : atomsAt bytes (proofStart h) registerCount (getD bytes (p + 2) 0) after ≡ value (a .atoms, next)
@@ -54,7 +54,7 @@ unfolding byteAt _>>=_
 there-byte bytes end p x e = let b = bound (check (leb (p + 1) end) missing) _ e in (leb-true (p + 1) end (past-check _ _ (b .1)), (cc))
 
 module _ (bytes : List ℕ) (h : Header) where
-  from-parts : (lowest p index count : ℕ) (credit : Term × ℕ) (atoms : List Atom × ℕ) (x : Annotation × ℕ) → halfAt bytes (proofStart h) p ≡ value index → (leb lowest index && ltb index (h .instructions)) ≡ true → byteAt bytes (proofStart h) (p + 2) ≡ value count → leb count 16 ≡ true
+  from-parts : (lowest p index count : ℕ) (credit : Term × ℕ) (atoms : List Atom × ℕ) (x : Annotation × ℕ) → halfAt bytes (proofStart h) p ≡ value index → (leb lowest index && ltb index (h .instructions)) ≡ true → byteAt bytes (proofStart h) (p + 2) ≡ value count → leb count mostAtoms ≡ true
       → expressionAt bytes (proofStart h) registerCount (p + 3) ≡ value credit → atomsAt bytes (proofStart h) registerCount count (credit .1) ≡ value atoms → _≡_ {A = Annotation × ℕ} (record { index = index; credit = credit .0; atoms = atoms .0 }, atoms .1) x → Laid bytes h p (x .0) (x .1)
   from-parts lowest p index count credit atoms x ei ti ec tc et ea made =
       let i = there-half bytes (proofStart h) p index ei in
@@ -64,7 +64,7 @@ module _ (bytes : List ℕ) (h : Header) where
         inside = omega arith;
         index = i .1;
         below = ltb-true index (h .instructions) (and-eq-true-iff (leb lowest index) (ltb index (h .instructions)) .0 ti .1);
-        few = rw (← c .1) (leb-true count 16 tc);
+        few = rw (← c .1) (leb-true count mostAtoms tc);
         after = credit .1;
         credit = et;
         atoms = rw (← c .1) ea;
@@ -77,7 +77,7 @@ module _ (bytes : List ℕ) (h : Header) where
       let i = bound (annotationField bytes h (halfAt bytes end p)) _ e in
       let it = bound (check (leb lowest (i .0) && ltb (i .0) (h .instructions)) (BadAnnotation p)) _ (i .2) in
       let c = bound (annotationField bytes h (byteAt bytes end (p + 2))) _ (it .2) in
-      let ct = bound (check (leb (c .0) 16) (BadAnnotation (p + 2))) _ (c .2) in
+      let ct = bound (check (leb (c .0) mostAtoms) (BadAnnotation (p + 2))) _ (c .2) in
       let t = bound (annotationField bytes h (expressionAt bytes end registerCount (p + 3))) _ (ct .2) in
       let l = bound (annotationField bytes h (atomsAt bytes end registerCount (c .0) (t .0 .1))) _ (t .2) in
       let made : _≡_ {A = Annotation × ℕ} (record { index = i .0; credit = t .0 .0; atoms = l .0 .0 }, l .0 .1) (a, next) = cc in

@@ -11,7 +11,7 @@ use lib.Dec.{leb, ltb, eqb}
 use borrow.Author.Tests.{le-leb, eq-eqb, ne-eqb}
 use Rattle.model.specs.Result.{Result, stop, value, _>>=_, check}
 use Rattle.model.specs.Field.{halfAt}
-use Rattle.model.specs.Package.{annotationStart, proofStart}
+use Rattle.model.specs.Package.{mostAnnotations, annotationStart, proofStart}
 use Rattle.model.specs.Annotation.{Annotation, annotationField, annotationFrom, annotationsFrom, readAnnotations}
 use Rattle.model.specs.declared.Header.{Header}
 use Rattle.model.specs.declared.Refusal.{Refusal}
@@ -110,7 +110,7 @@ module _ (bytes : List ℕ) (h : Header) where
     pub tabled : Tabled bytes h count indexes places
     pub rest : readAnnotations bytes h ≡ (annotationsFrom bytes h (h .annotations - count) lowest p >>= finish (annotationsAt bytes h (take count places)))
 
-  pub note-start : (indexes places : List ℕ) (p : ℕ) → length indexes ≡ 64 → length places ≡ 64 → p ≡ annotationStart h → Noting indexes places 0 p 0
+  pub note-start : (indexes places : List ℕ) (p : ℕ) → length indexes ≡ mostAnnotations → length places ≡ mostAnnotations → p ≡ annotationStart h → Noting indexes places 0 p 0
   unfolding readAnnotations finish _>>=_
   note-start indexes places p li lp e = record {
     within = omega arith;
@@ -119,7 +119,7 @@ module _ (bytes : List ℕ) (h : Header) where
     rest = let s : h .annotations ≡ h .annotations - 0 = omega arith in rw e (ap (λ (k : ℕ). annotationsFrom bytes h k 0 (annotationStart h) >>= finish []) s);
   }
 
-  module _ (indexes places : List ℕ) (lowest p count : ℕ) (g : Noting indexes places lowest p count) (few : h .annotations ≤ 64) where
+  module _ (indexes places : List ℕ) (lowest p count : ℕ) (g : Noting indexes places lowest p count) (few : h .annotations ≤ mostAnnotations) where
     module _ (l : count < h .annotations) (r : AnnotationAnswer) (R : AnnotationRead bytes h lowest p r) where
       -- one more in both tables: v is its index, and w its place
       tabled-more : (index q v w : ℕ) → Stands lowest p index q → v ≡ index → w ≡ p → Tabled bytes h (count + 1) (set indexes count v) (set places count w)

@@ -8,7 +8,7 @@ use Rattle.model.specs.Term.{Term, constant}
 use Rattle.model.specs.Atom.{Atom}
 use Rattle.model.specs.Field.{ReadError}
 use Rattle.model.specs.Expression.{registerCount, expressionAt, atomsAt}
-use Rattle.model.specs.Package.{proofStart}
+use Rattle.model.specs.Package.{mostAnnotations, proofStart}
 use Rattle.model.specs.Annotation.{Annotation, annotationFrom, readAnnotations}
 use Rattle.model.specs.declared.Header.{Header}
 use Rattle.model.specs.declared.Refusal.{Refusal}
@@ -61,8 +61,8 @@ indexesOf annotations = map (λ (a : Annotation). a .index) annotations
 
 -- the annotations at the first places of the table, and their indexes in the other
 pub record Tabled (bytes : List ℕ) (h : Header) (count : ℕ) (indexes places : List ℕ) : Type 0 where
-  pub indexes-long : length indexes ≡ 64
-  pub places-long : length places ≡ 64
+  pub indexes-long : length indexes ≡ mostAnnotations
+  pub places-long : length places ≡ mostAnnotations
   pub listed : take count indexes ≡ indexesOf (annotationsAt bytes h (take count places))
   pub placed : (k : ℕ) → k < count → Placed bytes h (getD places k 0)
 

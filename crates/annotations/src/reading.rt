@@ -1,12 +1,14 @@
 // The reading of annotations: checks 10 and 11.
 use expressions::Reading;
+use limits::MOST_ATOMS;
+use limits::REGISTERS;
 use model::Header;
 use model::Refusal;
 use routine::header;
 ghost use mathlib.Core.Path.{_≡_};
 ghost use Prim.Native.Nat.{_^_, _≤_, _<_};
 ghost use lib.ListN.{length};
-ghost use Rattle.model.specs.Package.{proofStart};
+ghost use Rattle.model.specs.Package.{mostAnnotations, proofStart};
 ghost use Rattle.expressions.specs.Reading.{Reads};
 ghost use Rattle.routine.specs.Headers.{Fits};
 ghost use Rattle.annotations.specs.Annotations.{bodyAt, AnnotationRead, AnnotationsMet};
@@ -31,11 +33,11 @@ fn body(bytes: &[u8], end: usize, count: usize, at: usize) -> Reading
     requires { ⌜ end ≤ length (now bytes) ⌝ }
     ensures { λ r. ⌜ Reads end (bodyAt (now (bytes .entry)) end count at) r ⌝ }
 {
-    let credit = expressions::expression(bytes, end, 16, at);
+    let credit = expressions::expression(bytes, end, REGISTERS, at);
     let Reading::Next(next) = credit else {
         return credit;
     };
-    expressions::atoms(bytes, end, 16, count, next)
+    expressions::atoms(bytes, end, REGISTERS, count, next)
 }
 
 pub enum AnnotationAnswer {
@@ -61,7 +63,7 @@ pub fn annotation(bytes: &[u8], header: Header, lowest: usize, at: usize) -> Ann
         return AnnotationAnswer::Refused(Refusal::AnnotationBytes(end));
     }
     let count = count_of(bytes[at + 2]);
-    if 16 < count {
+    if MOST_ATOMS < count {
         return AnnotationAnswer::Refused(Refusal::BadAnnotation(at + 2));
     }
     let rest = body(bytes, end, count, at + 3);
@@ -85,7 +87,7 @@ pub fn read_annotations(
     places: &mut [u32],
 ) -> AnnotationsAnswer
     requires { ⌜ Fits (now bytes) header ⌝ }
-    requires { ⌜ (length (now indexes) ≡ 64) × (length (now places) ≡ 64) ⌝ }
+    requires { ⌜ (length (now indexes) ≡ mostAnnotations) × (length (now places) ≡ mostAnnotations) ⌝ }
     ensures { λ r. ⌜ AnnotationsMet (now (bytes .entry)) header (now (indexes .exit)) (now (places .exit)) r ⌝ }
 {
     let end = header::proof_start(header);

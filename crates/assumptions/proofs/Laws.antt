@@ -11,12 +11,13 @@ use lib.ListN.{length, set, getElem?, length-append}
 use lib.Seq.{getD-set-same}
 use Rattle.model.specs.Atom.{Atom, tagOf}
 use Rattle.model.specs.declared.Comparison.{Comparison}
-use Rattle.terms.specs.Workspace.{workspaceWords, assumptionBase, mostAssumptions, tableBase, mostTableNodes, Same}
+use Rattle.model.specs.Verdict.{leastWorkspace}
+use Rattle.workspace.specs.Layout.{assumptionBase, mostAssumptions, tableBase, mostTableNodes, Same}
 use Rattle.model.specs.declared.Comparison.the-variants.{Equal, Unequal, Less, AtMost}
 use Rattle.terms.specs.Table.{low, high, place, Formed}
-use Rattle.terms.proofs.Frames.{same-within, set-before, set-after}
+use Rattle.workspace.proofs.Frames.{same-within, set-before, set-after}
 use Rattle.terms.proofs.Table.{term-same, formed-same}
-use Rattle.terms.proofs.Atoms.{kind-tag}
+use Rattle.fields.proofs.Tags.{kind-tag}
 use Rattle.assumptions.specs.Area.{slot, packed, unpacked, entryOf, atomIn, listed, Listed, Pushed}
 
 -- ---- words that keep the area: the entries are the same
@@ -66,7 +67,7 @@ unpacked-is kind x y h =
     let r : high (packed kind x y) ≡ y = omega (arith, tag-bound kind) in
     rw (t, l, r, kind-tag kind)
 
-module _ {ws : List ℕ} {count top : ℕ} (c : (count < mostAssumptions) × (top ≤ mostTableNodes) × (workspaceWords ≤ length ws)) (l : Listed ws count top) (kind : Comparison) {x y : ℕ} (b : (x < top) × (y < top)) where
+module _ {ws : List ℕ} {count top : ℕ} (c : (count < mostAssumptions) × (top ≤ mostTableNodes) × (leastWorkspace ≤ length ws)) (l : Listed ws count top) (kind : Comparison) {x y : ℕ} (b : (x < top) × (y < top)) where
   abbrev after : List ℕ
   after = set ws (slot count) (packed kind x y)
 

@@ -5,9 +5,9 @@ use Prim.Native.Nat.{ℕ, zero, suc, _+_, _*_, _/_, _%_, _<_, _≤_}
 use lib.ListN.{length, getD}
 use Rattle.model.specs.Atom.{Atom, tagOf}
 use Rattle.model.specs.declared.Comparison.{Comparison}
-use Rattle.terms.specs.Workspace.{assumptionBase, mostAssumptions, Same}
+use Rattle.workspace.specs.Layout.{assumptionBase, mostAssumptions, Same}
 use Rattle.terms.specs.Table.{low, high, termAt}
-use Rattle.terms.specs.Reader.{kindOf}
+use Rattle.fields.specs.Kind.{kindOf}
 use Rattle.assumptions.specs.declared.Assumption.{Assumption}
 
 -- where assumption k lies

@@ -6,7 +6,8 @@ use mathlib.Core.List.{List, _∷_, _++_, append-nil}
 use lib.ListN.{length, getD, set, take, drop, replicate, length-set, length-replicate, getD-replicate, List·getD-append}
 use lib.Seq.{drop-length, length-take-le}
 use borrow.Author.Fill.{fill-none, fill-more}
-use Rattle.linear.specs.Area.{areaWords, Cleared}
+use Rattle.workspace.specs.Layout.{areaWords}
+use Rattle.linear.specs.Area.{Cleared}
 
 pub record Filled (w₀ w : List ℕ) (i : ℕ) : Type 0 where
   pub is : w ≡ replicate i 0 ++ drop i w₀

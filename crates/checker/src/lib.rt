@@ -2,6 +2,8 @@
 
 use annotations::reading::AnnotationsAnswer;
 use annotations::targets::TargetsAnswer;
+use limits::LEAST_WORKSPACE;
+use limits::MOST_ANNOTATIONS;
 use model::Header;
 use model::Refusal;
 use model::Verdict;
@@ -10,12 +12,14 @@ use policy::Policy;
 use policy::PolicyAnswer;
 use routine::header::HeaderAnswer;
 use routine::instructions::CodeAnswer;
+use workspace::AREA_WORDS;
 ghost use mathlib.Core.Path.{_≡_};
 ghost use Prim.Native.Nat.{_≤_};
 ghost use lib.ListN.{length, replicate};
-ghost use Rattle.model.specs.Verdict.{refusing, checkOf, workspaceAfter};
+ghost use Rattle.model.specs.Verdict.{leastWorkspace, refusing, checkOf, workspaceAfter};
 ghost use Rattle.model.specs.Routine.{readRoutine};
 ghost use Rattle.model.specs.Property.{Safe};
+ghost use Rattle.workspace.specs.Layout.{areaWords};
 ghost use Rattle.policy.specs.Policy.{policyOf, Checked};
 ghost use Rattle.routine.specs.Headers.{Fits};
 ghost use Rattle.linear.specs.Area.{Cleared};
@@ -34,10 +38,10 @@ fn clear(words: &mut [u32])
 
 // Makes the words zero in which linear forms are compared.
 fn clear_area(workspace: &mut [u32])
-    requires { ⌜ 1000 ≤ length (now workspace) ⌝ }
+    requires { ⌜ areaWords ≤ length (now workspace) ⌝ }
     ensures { λ _. ⌜ Cleared (now (workspace .exit)) ⌝ }
 {
-    clear(&mut workspace[..1000]);
+    clear(&mut workspace[..AREA_WORDS]);
 }
 
 // The verdict where a check refuses before any goal.
@@ -59,12 +63,12 @@ fn check_annotations(
     bytes: &[u8],
     header: Header,
 ) -> Verdict
-    requires { ⌜ 16384 ≤ length (now workspace) ⌝ }
+    requires { ⌜ leastWorkspace ≤ length (now workspace) ⌝ }
     requires { ⌜ Checked (now conditions) policy × Fits (now bytes) header ⌝ }
     ensures { λ r. ⌜ AnnotationsChecked (now (bytes .entry)) (policyOf (now (conditions .entry)) policy) header r ⌝ }
 {
-    let mut indexes = [0u32; 64];
-    let mut places = [0u32; 64];
+    let mut indexes = [0u32; MOST_ANNOTATIONS];
+    let mut places = [0u32; MOST_ANNOTATIONS];
     let read = annotations::reading::read_annotations(bytes, header, &mut indexes, &mut places);
     if let AnnotationsAnswer::Refused(refusal) = read {
         return refused(refusal);
@@ -84,7 +88,7 @@ fn check_annotations(
 
 // Checks 7, 8 and 9, and what comes after them.
 fn check_package(workspace: &mut [u32], conditions: &[u8], policy: Policy, bytes: &[u8]) -> Verdict
-    requires { ⌜ 16384 ≤ length (now workspace) ⌝ }
+    requires { ⌜ leastWorkspace ≤ length (now workspace) ⌝ }
     requires { ⌜ Checked (now conditions) policy ⌝ }
     ensures { λ r. ⌜ r ≡ routineVerdict (now (bytes .entry)) (policyOf (now (conditions .entry)) policy) (readRoutine (now (bytes .entry))) ⌝ }
 {
@@ -101,7 +105,7 @@ fn check_package(workspace: &mut [u32], conditions: &[u8], policy: Policy, bytes
 
 // Checks 3 to 6, and what comes after them.
 fn check_policy(workspace: &mut [u32], conditions: &[u8], bytes: &[u8]) -> Verdict
-    requires { ⌜ 16384 ≤ length (now workspace) ⌝ }
+    requires { ⌜ leastWorkspace ≤ length (now workspace) ⌝ }
     ensures { λ r. ⌜ r ≡ checkOf (length (now (workspace .entry))) (now (conditions .entry)) (now (bytes .entry)) ⌝ }
 {
     let read = policy::read_policy(conditions);
@@ -119,7 +123,7 @@ pub fn check(workspace: &mut [u32], policy: &[u8], bytes: &[u8]) -> Verdict
     ensures left { λ r. ⌜ now (workspace .exit) ≡ workspaceAfter (now (workspace .entry)) ⌝ }
     ensures safe { λ r. ⌜ (r .number ≡ 0 → Safe (now (policy .entry)) (now (bytes .entry))) ⌝ }
 {
-    if workspace.len() < 16384 {
+    if workspace.len() < LEAST_WORKSPACE {
         return refused(Refusal::SmallWorkspace);
     }
     let verdict = check_policy(workspace, policy, bytes);

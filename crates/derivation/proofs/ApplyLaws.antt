@@ -2,7 +2,7 @@
 use mathlib.Core.Path.{_≡_, refl, sym, ap, subst, _∙_}
 use mathlib.Core.Bool.{true, false}
 use mathlib.Core.List.{List, []}
-use Prim.Native.Nat.{ℕ, zero, suc, _<_, _≤_}
+use Prim.Native.Nat.{ℕ, zero, suc, _<_, _≤_, _+_}
 use native.Mathlib.Omega.{arith}
 use lib.ListN.{length}
 use Rattle.model.specs.Result.{value, stopAs}
@@ -15,28 +15,31 @@ use Rattle.model.specs.declared.Refusal.{Refusal}
 use Rattle.model.specs.declared.Refusal.the-variants.{UnfitRule}
 use Rattle.model.proofs.Gives.{gives-value}
 use Rattle.model.proofs.Lists.{Every, every-head, every-tail}
-use Rattle.terms.specs.Workspace.{assumptionBase, tableBase, Same}
+use Rattle.workspace.specs.Layout.{assumptionBase, tableBase, Same}
 use Rattle.terms.specs.Table.{place, Formed}
-use Rattle.terms.proofs.Frames.{same-trans, same-within}
+use Rattle.workspace.proofs.Frames.{same-trans, same-within}
 use Rattle.terms.proofs.Table.{formed-same}
-use Rattle.terms.proofs.Substitution.{register-terms-same}
+use Rattle.term_reader.proofs.Substitution.{register-terms-same}
 use Rattle.assumptions.specs.Area.{listed}
 use Rattle.assumptions.proofs.Laws.{held-kept, listed-kept}
-use Rattle.derivation.specs.Parts.{claimOf, ClaimBelow, AtomBounded}
-use Rattle.derivation.specs.Plan.{ofThree, fitting, premisesOf, planOf, asks, Planned}
-use Rattle.derivation.specs.Regions.{regionsOf}
-use Rattle.derivation.specs.Opening.{ruleOf, Opening, Opens}
+use Rattle.claims.specs.Parts.{claimOf, ClaimBelow}
+use Rattle.model_laws.specs.Bounded.{AtomBounded}
+use Rattle.claims.specs.Plan.{fitting, premisesOf, planOf, asks, Planned, premisesFrom, premiseAt, atomIn}
+use Rattle.claims.specs.Regions.{regionsOf}
+use Rattle.claims.specs.Rule.{ruleOf}
+use Rattle.rule_reader.specs.Opening.{Opening, Opens}
 use Rattle.derivation.specs.Deriving.{Judged, Prepared, Plannable, Derivable, applied, Applies}
-use Rattle.derivation.specs.declared.Claim.{Claim}
-use Rattle.derivation.specs.declared.Claim.the-variants.{Atom as AtomClaim, Readable, Writable}
-use Rattle.derivation.specs.declared.Scope.{Scope}
-use Rattle.derivation.specs.declared.Plan.{Plan}
+use Rattle.claims.specs.declared.Claim.{Claim}
+use Rattle.claims.specs.declared.Claim.the-variants.{Atom as AtomClaim, Readable, Writable}
+use Rattle.claims.specs.declared.Scope.{Scope}
+use Rattle.claims.specs.declared.Plan.{Plan}
 use Rattle.derivation.specs.declared.Step.the-variants.{Premises, Refused as RefusedStep}
-use Rattle.derivation.specs.declared.opening.Opened.{Opened}
-use Rattle.derivation.specs.declared.opening.Opened.the-variants.{Rule as OpenRule, Refused as RefusedRule}
-use Rattle.derivation.proofs.BoundLaws.{premises-bounded, rule-read}
-use Rattle.derivation.proofs.RuleLaws.{stops, goes-on, kept-term}
-use Rattle.derivation.proofs.OpeningLaws.{register-below}
+use Rattle.rule_reader.specs.declared.Opened.{Opened}
+use Rattle.rule_reader.specs.declared.Opened.the-variants.{Rule as OpenRule, Refused as RefusedRule}
+use Rattle.model_laws.proofs.Bounds.{premises-bounded, rule-read}
+use Rattle.model_laws.proofs.Steps.{stops, goes-on}
+use Rattle.claims.proofs.PlanLaws.{kept-term}
+use Rattle.rule_reader.proofs.OpeningLaws.{register-below}
 
 -- ---- words that keep all below the top
 module _ {ws us : List ℕ} {top : ℕ} (s : Same 0 (place top) ws us) where
@@ -71,22 +74,12 @@ claim-higher top high (AtomClaim kind left right) h b = (omega (arith, b .0), om
 claim-higher top high (Readable t) h b = omega arith
 claim-higher top high (Writable t) h b = omega arith
 
--- ---- the first of three
-module _ {P : Atom → Type 0} (a b c : Atom) where
-  first-of : (n : ℕ) → Every P (ofThree n a b c) → 0 < n → P a
-  first-of zero e h = absurd (omega arith)
-  first-of (suc n) e h = every-head e
-
-  second-of : (n : ℕ) → Every P (ofThree n a b c) → 1 < n → P b
-  second-of zero e h = absurd (omega arith)
-  second-of (suc zero) e h = absurd (omega arith)
-  second-of (suc (suc n)) e h = every-head (every-tail e)
-
-  third-of : (n : ℕ) → Every P (ofThree n a b c) → 2 < n → P c
-  third-of zero e h = absurd (omega arith)
-  third-of (suc zero) e h = absurd (omega arith)
-  third-of (suc (suc zero)) e h = absurd (omega arith)
-  third-of (suc (suc (suc n))) e h = every-head (every-tail (every-tail e))
+-- ---- what holds of every premise
+every-premise : (P : Atom → Type 0) (us : List ℕ) (p : Plan) (left k : ℕ) → Every P (premisesFrom us p left k) → (i : ℕ) → i < left → P (atomIn us (premiseAt p (i + k)))
+every-premise P us p zero k e i h = absurd (omega arith)
+every-premise P us p (suc left) k e zero h = let same : k ≡ 0 + k = omega arith in subst (λ j. P (atomIn us (premiseAt p j))) same (every-head e)
+every-premise P us p (suc left) k e (suc i) h =
+    let same : i + suc k ≡ suc i + k = omega arith in subst (λ j. P (atomIn us (premiseAt p j))) same (every-premise P us p left (suc k) (every-tail e) i (omega arith))
 
 -- ---- what the callees ask
 module _ {ws words : List ℕ} {scope : Scope} {top : ℕ} {claim : Claim} (y : Derivable ws words scope 1 top claim) where
@@ -162,9 +155,12 @@ module _ {ws words : List ℕ} {scope : Scope} {top : ℕ} {claim : Claim} (y : 
             formed = q .grows .formed;
             above = omega (arith, o .above, q .grows .above);
             few = omega (arith, o .few, q .grows .few);
-            first = λ h. record { below = q .first h; bounded = first-of _ _ _ (p .count) premises-within h };
-            second = λ h. record { below = q .second h; bounded = second-of _ _ _ (p .count) premises-within h };
-            third = λ h. record { below = q .third h; bounded = third-of _ _ _ (p .count) premises-within h };
+            within = λ k h. record {
+              below = q .below k h;
+              bounded =
+                  let same : k + 0 ≡ k = omega arith in
+                  subst (λ j. AtomBounded (scope .variables) (atomIn vs (premiseAt p j))) same (every-premise (AtomBounded (scope .variables)) vs p (p .count) 0 premises-within k h);
+            };
             onward = let r = gives-value (sym (o .answer)) (rule-read bytes (scope .variables) at) in (r .1, r .2);
           };
         }

@@ -1,7 +1,3 @@
-pub mod PartLaws
-pub mod BoundLaws
-pub mod RuleLaws
-pub mod OpeningLaws
-pub mod PlanLaws
+pub mod ChoiceLaws
 pub mod ApplyLaws
 pub mod DerivationLaws

@@ -3,7 +3,7 @@ use mathlib.Core.Path.{_≡_}
 use mathlib.Core.List.{List}
 use Prim.Native.Nat.{ℕ, _+_, _*_, _<_, _≤_}
 use lib.ListN.{length, getElem?}
-use Rattle.model.specs.Result.{Result, stop, value, _>>=_, stopAs}
+use Rattle.model.specs.Result.{Result, stop, value, stopAs, _>>=_}
 use Rattle.model.specs.Atom.{Atom}
 use Rattle.model.specs.Policy.{Policy}
 use Rattle.model.specs.Goals.{Goal, Claim as Claimed, registerVariables}
@@ -11,24 +11,26 @@ use Rattle.model.specs.Rule.{rules, premises}
 use Rattle.model.specs.Derivation.{ruleAt, derive}
 use Rattle.model.specs.declared.Refusal.{Refusal}
 use Rattle.model.specs.declared.Refusal.the-variants.{UnfitRule}
-use Rattle.terms.specs.Workspace.{Same}
+use Rattle.model.specs.Expression.{registerCount, mostNodes}
+use Rattle.workspace.specs.Layout.{Same, mostVariables}
 use Rattle.terms.specs.Table.{place, Formed, Space}
-use Rattle.terms.specs.Reader.{RegisterTerms}
+use Rattle.term_reader.specs.Reader.{RegisterTerms}
 use Rattle.assumptions.specs.Area.{listed, Listed}
-use Rattle.linear.specs.Area.{constantWord, Cleared}
-use Rattle.derivation.specs.Parts.{claimOf, ClaimBelow, AtomBounded, ClaimBounded}
-use Rattle.derivation.specs.Plan.{atomIn, premisesOf, PremiseBelow}
-use Rattle.derivation.specs.Regions.{regionsOf, RegionWords}
-use Rattle.derivation.specs.Opening.{formOf, registerNodes}
-use Rattle.derivation.specs.declared.Claim.{Claim}
-use Rattle.derivation.specs.declared.Scope.{Scope}
-use Rattle.derivation.specs.declared.Premise.{Premise}
-use Rattle.derivation.specs.declared.Plan.{Plan}
+use Rattle.linear.specs.Area.{Cleared}
+use Rattle.claims.specs.Parts.{claimOf, ClaimBelow}
+use Rattle.model_laws.specs.Bounded.{AtomBounded, ClaimBounded}
+use Rattle.claims.specs.Plan.{atomIn, premisesOf, PremiseBelow, newNodes, premiseAt}
+use Rattle.claims.specs.Regions.{regionsOf, RegionWords}
+use Rattle.rule_reader.specs.Opening.{formOf, registerNodes}
+use Rattle.claims.specs.declared.Claim.{Claim}
+use Rattle.claims.specs.declared.Scope.{Scope}
+use Rattle.claims.specs.declared.Premise.{Premise}
+use Rattle.claims.specs.declared.Plan.{Plan}
 use Rattle.derivation.specs.declared.Step.{Step}
 use Rattle.derivation.specs.declared.Step.the-variants.{Premises, Refused as RefusedStep}
 use Rattle.derivation.specs.declared.Derived.{Derived}
 use Rattle.derivation.specs.declared.Derived.the-variants.{Next, Refused}
-use Rattle.derivation.specs.declared.opening.Form.the-variants.{Argument}
+use Rattle.rule_reader.specs.declared.Form.the-variants.{Argument}
 
 -- the policy and the goal whose regions, assumptions and number of variables these are
 pub record Judged (words ws : List ℕ) (scope : Scope) (policy : Policy) (g : Goal) : Type 0 where
@@ -39,9 +41,9 @@ pub record Judged (words ws : List ℕ) (scope : Scope) (policy : Policy) (g : G
 -- the workspace below top: nodes 0 to 15 are variables 0 to 15, the assumptions are nodes of the table, the coefficients' area is free
 pub record Prepared (ws : List ℕ) (top : ℕ) (scope : Scope) : Type 0 where
   pub formed : Formed ws top
-  pub above : 16 ≤ top
+  pub above : registerCount ≤ top
   pub registers : RegisterTerms ws registerNodes registerVariables
-  pub most : scope .variables ≤ constantWord
+  pub most : scope .variables ≤ mostVariables
   pub assumed : Listed ws (scope .assumptions) top
   pub cleared : Cleared ws
 
@@ -49,17 +51,21 @@ pub record Prepared (ws : List ℕ) (top : ℕ) (scope : Scope) : Type 0 where
 pub record Plannable (ws words : List ℕ) (scope : Scope) (number argument : ℕ) (claim : Claim) (top : ℕ) : Type 0 where
   pub prepared : Prepared ws top scope
   pub regions : RegionWords words (scope .regions)
-  pub space : Space ws top 4
+  pub space : Space ws top newNodes
   pub below : ClaimBelow top claim
   pub bounded : ClaimBounded (scope .variables) (claimOf ws claim)
   pub known : number < length rules
   pub held : Argument ≡ formOf (getElem? rules number) → argument < top
 
--- what a derivation of at most so many levels needs; a level makes at most 31 nodes for an argument and 4 for its premises
+-- nodes that a level of a derivation may make: an argument, and a rule's own
+abbrev pub levelRoom : ℕ
+levelRoom = mostNodes + newNodes
+
+-- what a derivation of at most so many levels needs
 pub record Derivable (ws words : List ℕ) (scope : Scope) (levels top : ℕ) (claim : Claim) : Type 0 where
   pub prepared : Prepared ws top scope
   pub regions : RegionWords words (scope .regions)
-  pub space : Space ws top (36 * levels)
+  pub space : Space ws top (levelRoom * levels)
   pub below : ClaimBelow top claim
   pub bounded : ClaimBounded (scope .variables) (claimOf ws claim)
 
@@ -85,10 +91,8 @@ pub record PremiseWithin (us : List ℕ) (top n : ℕ) (p : Premise) : Type 0 wh
 pub record Standing (bytes us : List ℕ) (n top at : ℕ) (p : Plan) (next : ℕ) : Type 0 where
   pub formed : Formed us (p .top)
   pub above : top ≤ p .top
-  pub few : p .top ≤ top + 35
-  pub first : 0 < p .count → PremiseWithin us (p .top) n (p .first)
-  pub second : 1 < p .count → PremiseWithin us (p .top) n (p .second)
-  pub third : 2 < p .count → PremiseWithin us (p .top) n (p .third)
+  pub few : p .top ≤ top + levelRoom
+  pub within : (k : ℕ) → k < p .count → PremiseWithin us (p .top) n (premiseAt p k)
   pub onward : (at < next) × (next ≤ length bytes)
 
 -- the same of a step that has premises

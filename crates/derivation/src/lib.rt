@@ -1,51 +1,21 @@
-// Derivations: the rules, and the checker of a derivation in prefix form.
-mod opening;
-mod parts;
-mod rules;
-
+// Derivations: the choice among the rules, and the checker of a derivation in prefix form.
+use claims::Claim;
+use claims::Goal;
+use claims::Plan;
+use claims::Scope;
+use claims::parts::Operation;
+use claims::plans;
+use limits::MOST_LEVELS;
+use logic_rules::Shape;
+use logic_rules::from_sides;
 use model::Comparison;
 use model::Refusal;
-use opening::Opened;
-ghost use mathlib.Core.Path.{_≡_};
+use rule_reader::Opened;
 ghost use Rattle.model.specs.Derivation.{mostLevels};
-ghost use Rattle.derivation.specs.Deriving.{Derivable, Applies, Derives};
-
-// What a goal or a premise claims; terms are nodes of the table.
-pub enum Claim {
-    Atom(Comparison, usize, usize),
-    Readable(usize),
-    Writable(usize),
-}
-
-// A claim at an instruction.
-pub struct Goal {
-    pub claim: Claim,
-    pub instruction: usize,
-}
-
-// What a claim is judged in: how many regions, assumptions and variables there are.
-pub struct Scope {
-    pub regions: usize,
-    pub assumptions: usize,
-    pub variables: usize,
-}
-
-// A comparison of two nodes, to be derived.
-pub struct Premise {
-    pub kind: Comparison,
-    pub left: usize,
-    pub right: usize,
-}
-
-// What a rule asks of a claim: whether it fits, and its premises, the first `count` of three; `top` is the table's new top.
-pub struct Plan {
-    pub fits: bool,
-    pub count: usize,
-    pub first: Premise,
-    pub second: Premise,
-    pub third: Premise,
-    pub top: usize,
-}
+ghost use Rattle.claims.specs.Parts.{claimOf};
+ghost use Rattle.claims.specs.Rule.{ruleOf};
+ghost use Rattle.claims.specs.Plan.{Planned, asks};
+ghost use Rattle.derivation.specs.Deriving.{Judged, Plannable, Derivable, Applies, Derives};
 
 // What a rule in the proof comes to: its premises and the position of the first one's derivation, or a refusal.
 enum Step {
@@ -59,12 +29,50 @@ pub enum Derived {
     Refused(Refusal),
 }
 
-// A premise as a claim.
-fn claimed(premise: Premise) -> Claim
-    ensures { λ r. ⌜ r ≡ Claim.Atom (premise .kind) (premise .left) (premise .right) ⌝ }
+// What the rule of a number asks of a claim; `value` is its argument: an index, a region's number or a node.
+fn planned(
+    regions: &[u32],
+    ws: &mut [u32],
+    scope: Scope,
+    number: usize,
+    value: usize,
+    claim: Claim,
+    top: usize,
+) -> Plan
+    requires { ⌜ Plannable (now ws) (now regions) scope number value claim top ⌝ }
+    ensures { λ r. ⌜ Planned (Judged (now (regions .entry)) (now (ws .entry)) scope) (asks (ruleOf (now (ws .entry)) number value) (claimOf (now (ws .entry)) claim)) (now (ws .entry)) (now (ws .exit)) top r ⌝ }
 {
-    let kind = premise.kind;
-    Claim::Atom(kind, premise.left, premise.right)
+    let equal = Comparison::Equal;
+    let unequal = Comparison::Unequal;
+    let less = Comparison::Less;
+    let at_most = Comparison::AtMost;
+    match number {
+        0 => logic_rules::assumed(ws, scope.assumptions, claim, value, top),
+        1 => logic_rules::reflexive(ws, claim, equal, top),
+        2 => logic_rules::reflexive(ws, claim, at_most, top),
+        3 => logic_rules::evaluated(ws, claim, top),
+        4 => from_sides(claim, equal, Shape::Exchanged, equal, equal, 0, top),
+        5 => from_sides(claim, equal, Shape::Through, equal, equal, value, top),
+        6 => from_sides(claim, at_most, Shape::Through, at_most, at_most, value, top),
+        7 => from_sides(claim, less, Shape::Through, less, at_most, value, top),
+        8 => from_sides(claim, less, Shape::Through, at_most, less, value, top),
+        9 => from_sides(claim, at_most, Shape::Same, less, less, 0, top),
+        10 => from_sides(claim, at_most, Shape::Same, equal, equal, 0, top),
+        11 => arithmetic_rules::congruent(ws, claim, top),
+        12 => arithmetic_rules::same_form(ws, scope.variables, claim, top),
+        13 => arithmetic_rules::from_zero(ws, claim, top),
+        14 => arithmetic_rules::monotone(ws, claim, Operation::Sum, top),
+        15 => arithmetic_rules::monotone(ws, claim, Operation::Difference, top),
+        16 => arithmetic_rules::successor(ws, claim, top),
+        17 => arithmetic_rules::within_successor(ws, claim, top),
+        18 => arithmetic_rules::no_overflow(ws, claim, top),
+        19 => from_sides(claim, less, Shape::Both, at_most, unequal, 0, top),
+        20 => from_sides(claim, unequal, Shape::Same, less, less, 0, top),
+        21 => from_sides(claim, unequal, Shape::Exchanged, unequal, unequal, 0, top),
+        22 => memory_rules::in_region(regions, scope.regions, ws, claim, 1, value, top),
+        23 => memory_rules::in_region(regions, scope.regions, ws, claim, 2, value, top),
+        _ => logic_rules::contradicted(value, top),
+    }
 }
 
 // The rule in the proof at a position, applied to a claim.
@@ -80,14 +88,14 @@ fn apply(
     requires { ⌜ Derivable (now ws) (now regions) scope 1 top claim ⌝ }
     ensures { λ r. ⌜ Applies (now (bytes .entry)) (now (regions .entry)) (now (ws .entry)) (now (ws .exit)) scope top claim at r ⌝ }
 {
-    match opening::read_rule(bytes, ws, scope.variables, top, at) {
+    match rule_reader::read_rule(bytes, ws, scope.variables, top, at) {
         Opened::Rule {
             number,
             value,
             next,
             top: above,
         } => {
-            let plan = rules::planned(regions, ws, scope, number, value, claim, above);
+            let plan = planned(regions, ws, scope, number, value, claim, above);
             if plan.fits {
                 Step::Premises { plan, next }
             } else {
@@ -121,32 +129,31 @@ pub fn derive(
         Step::Premises { plan, next } => {
             let count = plan.count;
             let high = plan.top;
-            if count == 0 {
-                return Derived::Next(next);
+            let mut reached = next;
+            let mut k = 0;
+            while k < count {
+                let premise = plans::premise(plan, k);
+                match derive(
+                    bytes,
+                    regions,
+                    ws,
+                    scope,
+                    levels - 1,
+                    high,
+                    premise,
+                    reached,
+                ) {
+                    Derived::Next(after) => reached = after,
+                    Derived::Refused(refusal) => return Derived::Refused(refusal),
+                }
+                k += 1;
             }
-            let first = claimed(plan.first);
-            let middle = match derive(bytes, regions, ws, scope, levels - 1, high, first, next) {
-                Derived::Next(middle) => middle,
-                Derived::Refused(refusal) => return Derived::Refused(refusal),
-            };
-            if count == 1 {
-                return Derived::Next(middle);
-            }
-            let second = claimed(plan.second);
-            let last = match derive(bytes, regions, ws, scope, levels - 1, high, second, middle) {
-                Derived::Next(last) => last,
-                Derived::Refused(refusal) => return Derived::Refused(refusal),
-            };
-            if count == 2 {
-                return Derived::Next(last);
-            }
-            let third = claimed(plan.third);
-            derive(bytes, regions, ws, scope, levels - 1, high, third, last)
+            Derived::Next(reached)
         }
     }
 }
 
-// The derivation of a goal's claim in the proof at a position, at most 32 deep.
+// The derivation of a goal's claim in the proof at a position, of at most so many levels as the limit says.
 pub fn check_goal(
     bytes: &[u8],
     regions: &[u32],
@@ -160,5 +167,5 @@ pub fn check_goal(
     ensures { λ r. ⌜ Derives (now (bytes .entry)) (now (regions .entry)) (now (ws .entry)) (now (ws .exit)) scope mostLevels top (goal .claim) at r ⌝ }
 {
     let claim = goal.claim;
-    derive(bytes, regions, ws, scope, 32, top, claim, at)
+    derive(bytes, regions, ws, scope, MOST_LEVELS, top, claim, at)
 }

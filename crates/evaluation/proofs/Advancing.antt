@@ -13,8 +13,9 @@ use Rattle.model.specs.Goals.{Move, goes, ends, returning, onward, pathTo, load
 use Rattle.model.specs.declared.Comparison.the-variants.{Equal, Less}
 use Rattle.model.specs.declared.Instruction.{Instruction}
 use Rattle.model.specs.declared.Instruction.the-variants.{Set, Add, AddImmediate, Subtract, Load, Store, Jump, JumpLess, JumpEqual, Return}
+use Rattle.model.specs.Package.{mostInstructions}
 use Rattle.routine.specs.Code.{Formed}
-use Rattle.derivation.specs.Regions.{regionsOf}
+use Rattle.claims.specs.Regions.{regionsOf}
 use Rattle.goals.specs.Judging.{Reached}
 use Rattle.goals.specs.Walking.{pathOf, PathIn}
 use Rattle.goals.specs.declared.Path.{Path}
@@ -33,43 +34,43 @@ formed-as n f e = subst (Formed n) e f
 
 -- what the functions of the kinds ask of the fields
 module _ (n : ℕ) {instruction : Instruction} (f : Formed n instruction) where
-  pub set-asks : {d i : ℕ} → instruction ≡ Set d i → d < 16
+  pub set-asks : {d i : ℕ} → instruction ≡ Set d i → d < registerCount
   unfolding Formed
   set-asks e = formed-as n f e .0
 
   module _ {d a b : ℕ} where
-    pub add-asks : instruction ≡ Add d a b → (d < 16) × (a < 16) × (b < 16)
+    pub add-asks : instruction ≡ Add d a b → (d < registerCount) × (a < registerCount) × (b < registerCount)
     unfolding Formed
     add-asks e = formed-as n f e
 
-    pub subtract-asks : instruction ≡ Subtract d a b → (d < 16) × (a < 16) × (b < 16)
+    pub subtract-asks : instruction ≡ Subtract d a b → (d < registerCount) × (a < registerCount) × (b < registerCount)
     unfolding Formed
     subtract-asks e = formed-as n f e
 
   module _ {d a i : ℕ} where
-    pub add-immediate-asks : instruction ≡ AddImmediate d a i → (d < 16) × (a < 16)
+    pub add-immediate-asks : instruction ≡ AddImmediate d a i → (d < registerCount) × (a < registerCount)
     unfolding Formed
     add-immediate-asks e = let g = formed-as n f e in (g .0, g .1)
 
-    pub load-asks : instruction ≡ Load d a i → (d < 16) × (a < 16)
+    pub load-asks : instruction ≡ Load d a i → (d < registerCount) × (a < registerCount)
     unfolding Formed
     load-asks e = let g = formed-as n f e in (g .0, g .1)
 
-    pub store-asks : instruction ≡ Store d a i → a < 16
+    pub store-asks : instruction ≡ Store d a i → a < registerCount
     unfolding Formed
     store-asks e = formed-as n f e .1
 
-  module _ {i : ℕ} (h : n ≤ 256) where
-    pub jump-asks : instruction ≡ Jump i → i ≤ 256
+  module _ {i : ℕ} (h : n ≤ mostInstructions) where
+    pub jump-asks : instruction ≡ Jump i → i ≤ mostInstructions
     unfolding Formed
     jump-asks e = omega (arith, formed-as n f e)
 
     module _ {a b : ℕ} where
-      pub less-asks : instruction ≡ JumpLess a b i → (i ≤ 256) × ((a < 16) × (b < 16))
+      pub less-asks : instruction ≡ JumpLess a b i → (i ≤ mostInstructions) × ((a < registerCount) × (b < registerCount))
       unfolding Formed
       less-asks e = let g = formed-as n f e in (omega (arith, g .2), (g .0, g .1))
 
-      pub equal-asks : instruction ≡ JumpEqual a b i → (i ≤ 256) × ((a < 16) × (b < 16))
+      pub equal-asks : instruction ≡ JumpEqual a b i → (i ≤ mostInstructions) × ((a < registerCount) × (b < registerCount))
       unfolding Formed
       equal-asks e = let g = formed-as n f e in (omega (arith, g .2), (g .0, g .1))
 
@@ -142,7 +143,7 @@ module _ {bytes policyBytes regions indexes places : List ℕ} {setting : Settin
     return-moves e m = moves-as (λ policy routine w. (fixed-regions w, (length policyBytes, postcondition-stands (fixed .settled) w))) (λ policy routine. rw e) m
 
     -- a branch by a comparison of two registers
-    module _ (w : PathIn ws path) {a b i : ℕ} (below : (a < 16) × (b < 16)) where
+    module _ (w : PathIn ws path) {a b i : ℕ} (below : (a < registerCount) × (b < registerCount)) where
       pub less-moves : instruction ≡ JumpLess a b i → Branches ws us bytes (TablesStand bytes regions places setting) credit path Less a b i p r → Advances ws us bytes policyBytes places setting credit path instruction p r
       unfolding move
       less-moves e m = moves-as (λ policy routine s. fixed-stand s) (λ policy routine. rw (e, register-term w a (below .0), register-term w b (below .1))) m

@@ -11,16 +11,17 @@ use lib.Seq.{drop-cons}
 use Rattle.model.specs.Term.{Term, constant}
 use Rattle.model.specs.Policy.{Policy}
 use Rattle.model.specs.Routine.{Routine}
-use Rattle.model.specs.Package.{proofStart}
+use Rattle.model.specs.Package.{proofStart, mostInstructions, mostAnnotations}
 use Rattle.model.specs.Annotation.{Annotation, annotationAt}
 use Rattle.model.specs.Goals.{Path as ModelPath, Trace, finish, append, blockStart, landing, walk, entryBlock, annotationBlock, annotationBlocks, traceOf}
-use Rattle.model.specs.Verdict.{verdict, refusing, judge}
+use Rattle.model.specs.Verdict.{leastWorkspace, verdict, refusing, judge}
 use Rattle.model.specs.declared.Verdict.{Verdict}
 use Rattle.model.specs.declared.Refusal.{Refusal}
 use Rattle.model.specs.declared.Refusal.the-variants.{ProofLeft}
-use Rattle.terms.specs.Workspace.{workspaceWords, assumptionBase, Same}
+use Rattle.model.specs.Atom.{mostAtoms}
+use Rattle.workspace.specs.Layout.{assumptionBase, Same}
 use Rattle.terms.specs.Table.{termAt}
-use Rattle.terms.proofs.Frames.{same-within}
+use Rattle.workspace.proofs.Frames.{same-within}
 use Rattle.linear.specs.Area.{Cleared}
 use Rattle.annotations.specs.Annotations.{annotationAtPlace}
 use Rattle.goals.specs.Judging.{Reached, ReachedAfter, verdictAfter, JudgesTrace}
@@ -48,7 +49,7 @@ pub still-cleared : {ws us : List ℕ} → Same 0 assumptionBase ws us → Clear
 still-cleared s c = record { word = λ k h. s .word k (omega arith) (omega arith) ∙ c .word k h }
 
 -- the room of a block's path
-pub block-room : {us : List ℕ} {index left : ℕ} {b : Block} → workspaceWords ≤ length us → index + left ≤ 256 → BlockIn us index b → RoomFor us (b .path) left
+pub block-room : {us : List ℕ} {index left : ℕ} {b : Block} → leastWorkspace ≤ length us → index + left ≤ mostInstructions → BlockIn us index b → RoomFor us (b .path) left
 block-room w h b = record {
   words = w;
   path-in = b .inside;
@@ -61,11 +62,11 @@ block-room w h b = record {
 
 -- ---- the block at instruction 0
 module _ {bytes policyBytes regions indexes places : List ℕ} {setting : Setting} (fixed : Fixed bytes policyBytes regions indexes places setting) {us : List ℕ} {b : Block}
-    (words : workspaceWords ≤ length us) (start : EntryBlock us policyBytes (setting .policy .precondition) (setting .policy .«precondition_atoms») (setting .policy .limit) b) where
+    (words : leastWorkspace ≤ length us) (start : EntryBlock us policyBytes (setting .policy .precondition) (setting .policy .«precondition_atoms») (setting .policy .limit) b) where
   entry-room : RoomFor us (b .path) (setting .header .instructions)
   entry-room = block-room words (omega (arith, fixed .settled .fits .few)) (start .block)
 
-  pub entry-asks : {p : Progress} → Reached bytes p → Tables bytes regions indexes places setting × (Going us regions bytes (setting .policy .count) goalRoom (b .path) p × (NodeIn us (b .path) (b .credit) × (b .path .counter ≤ 256)))
+  pub entry-asks : {p : Progress} → Reached bytes p → Tables bytes regions indexes places setting × (Going us regions bytes (setting .policy .count) goalRoom (b .path) p × (NodeIn us (b .path) (b .credit) × (b .path .counter ≤ mostInstructions)))
   entry-asks h = (
     fixed-tables fixed,
     (
@@ -142,11 +143,11 @@ module _ {bytes policyBytes regions indexes places : List ℕ} {setting : Settin
   pub index-below : {index : ℕ} → index ≡ getD indexes k 0 → index < setting .header .instructions
   index-below e = rw (index-is e) (stood .below)
 
-  pub start-asks : {at : ℕ} → at ≡ getD places k 0 → (setting .end ≤ length bytes) × (at + 2 < setting .end) × (getD bytes (at + 2) 0 ≤ 16)
+  pub start-asks : {at : ℕ} → at ≡ getD places k 0 → (setting .end ≤ length bytes) × (at + 2 < setting .end) × (getD bytes (at + 2) 0 ≤ mostAtoms)
   start-asks e = (omega (arith, fixed .settled .ends, fixed .settled .fits .whole), omega (arith, fixed .settled .ends, stood .inside), rw e (stood .few))
 
   module _ {us : List ℕ} {b : Block} {p : Progress} {at index : ℕ} (ei : index ≡ getD indexes k 0) (ea : at ≡ getD places k 0) (start : AnnotationBlock us bytes (setting .end) at index b) where
-    pub note-walk-asks : workspaceWords ≤ length us → Reached bytes p
+    pub note-walk-asks : leastWorkspace ≤ length us → Reached bytes p
         → RoomFor us (b .path) (setting .header .instructions - index) × (NodeIn us (b .path) (b .credit) × (Reached bytes p × (b .path .counter + (setting .header .instructions - index) ≡ setting .header .instructions)))
     note-walk-asks words q =
         let below : index < setting .header .instructions = index-below ei in
@@ -184,7 +185,7 @@ module _ {bytes policyBytes regions indexes places : List ℕ} {setting : Settin
         → append (annotationBlock policy routine (annotationAtPlace bytes (setting .header) (getD places k 0))) (annotationBlocks policy routine (drop (k + 1) (routine .annotations))) ≡ annotationBlocks policy routine (drop k (routine .annotations))
     unfolding annotationBlocks
     left-blocks h {policy} {routine} s =
-        let noted : setting .header .annotations ≤ 64 = fixed .settled .fits .noted in
+        let noted : setting .header .annotations ≤ mostAnnotations = fixed .settled .fits .noted in
         let long : length (routine .annotations) ≡ setting .header .annotations = ap length (s .annotations-are) ∙ annotations-long noted (fixed .settled .tabled) in
         let other : Annotation = annotationAtPlace bytes (setting .header) 0 in
         let here : getD (routine .annotations) k other ≡ annotationAtPlace bytes (setting .header) (getD places k 0) = ap (λ l. getD l k other) (s .annotations-are) ∙ annotation-at noted (fixed .settled .tabled) k other h in

@@ -15,9 +15,10 @@ use Rattle.model.specs.declared.Refusal.{Refusal}
 use Rattle.model.specs.declared.Refusal.the-variants.{PastLast}
 use Rattle.model.specs.declared.Instruction.{Instruction}
 use Rattle.model.specs.declared.Instruction.the-variants.{Return}
-use Rattle.terms.specs.Workspace.{assumptionBase, Same}
+use Rattle.model.specs.Package.{mostInstructions}
+use Rattle.workspace.specs.Layout.{assumptionBase, Same}
 use Rattle.terms.specs.Table.{termAt}
-use Rattle.terms.proofs.Frames.{same-refl, same-trans, same-within}
+use Rattle.workspace.proofs.Frames.{same-refl, same-trans, same-within}
 use Rattle.routine.specs.Code.{Formed, instructionResult, FormedIfPassed, InstructionRead}
 use Rattle.routine.specs.declared.instructions.InstructionAnswer.{InstructionAnswer}
 use Rattle.routine.specs.declared.instructions.InstructionAnswer.the-variants as read
@@ -115,7 +116,7 @@ module _ {bytes policyBytes regions indexes places : List ℕ} {setting : Settin
       credit-same : termAt us credit ≡ termAt ws credit
       credit-same = node-equal (a .kept) n
 
-      pub after-asks : Tables bytes regions indexes places setting × (Going us regions bytes (setting .policy .count) goalRoom (m .path) q × (NodeIn us (m .path) credit × (m .path .counter ≤ 256)))
+      pub after-asks : Tables bytes regions indexes places setting × (Going us regions bytes (setting .policy .count) goalRoom (m .path) q × (NodeIn us (m .path) credit × (m .path .counter ≤ mostInstructions)))
       after-asks = (
         fixed-tables fixed,
         (

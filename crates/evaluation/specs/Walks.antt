@@ -12,7 +12,7 @@ use Rattle.model.specs.Goals.{move, walk}
 use Rattle.model.specs.declared.Header.{Header}
 use Rattle.model.specs.declared.Instruction.{Instruction}
 use Rattle.model.specs.declared.Instruction.the-variants.{Return}
-use Rattle.terms.specs.Workspace.{assumptionBase, Same}
+use Rattle.workspace.specs.Layout.{assumptionBase, Same}
 use Rattle.routine.specs.Code.{Formed}
 use Rattle.goals.specs.Judging.{ReachedAfter, JudgesTrace}
 use Rattle.goals.specs.Walking.{pathOf}

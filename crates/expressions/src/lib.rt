@@ -1,11 +1,15 @@
 // The readers of expressions and atoms that only find where they end. The bytes run to `end`, and variables are below `limit`.
 mod scanning;
 
+use limits::MOST_NODES;
 use scanning::Scanned;
 ghost use Prim.Native.Nat.{_≤_, max};
 ghost use lib.ListN.{length};
 ghost use Rattle.model.specs.Expression.{expressionAt, atomAt, atomsAt};
 ghost use Rattle.expressions.specs.Reading.{Reads};
+
+// The nodes that an expression may have.
+const NODES: usize = MOST_NODES as usize;
 
 // What reading finds: where it goes on, or why it stops.
 pub enum Reading {
@@ -14,12 +18,12 @@ pub enum Reading {
     Fault(usize),
 }
 
-// Where the expression at `at`, of at most 31 nodes, ends.
+// Where the expression at `at`, of at most as many nodes as the limit says, ends.
 pub fn expression(bytes: &[u8], end: usize, limit: usize, at: usize) -> Reading
     requires { ⌜ end ≤ length (now bytes) ⌝ }
     ensures { λ r. ⌜ Reads end (expressionAt (now (bytes .entry)) end limit at) r ⌝ }
 {
-    let scanned = scanning::nodes(bytes, end, limit, at, 31);
+    let scanned = scanning::nodes(bytes, end, limit, at, NODES);
     match scanned {
         Scanned::Nodes { next, left: _ } => Reading::Next(next),
         Scanned::Missing => Reading::Missing,

@@ -1,4 +1,6 @@
 // Numbers in files, low byte first, and words modulo 2^32.
+pub mod kinds;
+
 ghost use mathlib.Core.Path.{_≡_};
 ghost use Prim.Native.Nat.{_+_, _≤_, _<_};
 ghost use lib.ListN.{length};

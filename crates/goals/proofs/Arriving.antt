@@ -15,16 +15,16 @@ use Rattle.model.specs.Goals.{Path as ModelPath, atom, arrival, returning}
 use Rattle.model.specs.declared.Comparison.the-variants.{AtMost}
 use Rattle.model.specs.declared.Refusal.{Refusal}
 use Rattle.model.specs.declared.Region.{Region}
-use Rattle.terms.specs.Workspace.{Same}
+use Rattle.workspace.specs.Layout.{Same}
 use Rattle.terms.specs.Table.{place, termAt, Formed, Space, Put}
-use Rattle.terms.specs.Reader.{ExpressionRead}
-use Rattle.terms.specs.declared.reader.Parse.{Parse}
-use Rattle.terms.specs.declared.reader.Parse.the-variants.{Term as FoundTerm}
-use Rattle.terms.proofs.Frames.{same-trans}
-use Rattle.terms.proofs.reader.Parse.{enum}
-use Rattle.derivation.specs.Parts.{claimOf}
-use Rattle.derivation.specs.Regions.{regionsOf}
-use Rattle.derivation.specs.declared.Claim.the-variants.{Atom as AtomClaim}
+use Rattle.term_reader.specs.Reader.{ExpressionRead}
+use Rattle.term_reader.specs.declared.Parse.{Parse}
+use Rattle.term_reader.specs.declared.Parse.the-variants.{Term as FoundTerm}
+use Rattle.workspace.proofs.Frames.{same-trans}
+use Rattle.term_reader.proofs.Parse.{enum}
+use Rattle.claims.specs.Parts.{claimOf}
+use Rattle.claims.specs.Regions.{regionsOf}
+use Rattle.claims.specs.declared.Claim.the-variants.{Atom as AtomClaim}
 use Rattle.goals.specs.declared.Path.{Path}
 use Rattle.goals.specs.declared.Progress.{Progress}
 use Rattle.goals.specs.declared.Judged.{Judged}

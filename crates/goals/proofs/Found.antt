@@ -9,22 +9,22 @@ use denote.Enum.Declared.{tagOf, declared}
 use Rattle.model.specs.Result.{Result, stop, value}
 use Rattle.model.specs.Term.{Term, substitute}
 use Rattle.model.specs.Atom.{Atom, substituteAtom}
-use Rattle.model.specs.Expression.{registerCount, expressionAt, atomAt}
+use Rattle.model.specs.Expression.{registerCount, expressionAt, atomAt, mostNodes}
 use Rattle.model.specs.declared.Comparison.{Comparison}
 use Rattle.terms.specs.Table.{termAt}
-use Rattle.terms.specs.Reader.{mapped, ExpressionRead, AtomRead}
-use Rattle.terms.specs.declared.reader.Parse.{Parse}
-use Rattle.terms.specs.declared.reader.Parse.the-variants.{Term as Found, Missing, Fault}
-use Rattle.terms.specs.declared.reader.AtomParse.{AtomParse}
-use Rattle.terms.specs.declared.reader.AtomParse.the-variants.{Atom as FoundAtom, Missing as MissingAtom, Fault as FaultAtom}
-use Rattle.terms.proofs.reader.Parse.{enum}
-use Rattle.terms.proofs.reader.AtomParse.{enum as atom-enum}
+use Rattle.term_reader.specs.Reader.{mapped, ExpressionRead, AtomRead, atomNodes}
+use Rattle.term_reader.specs.declared.Parse.{Parse}
+use Rattle.term_reader.specs.declared.Parse.the-variants.{Term as Found, Missing, Fault}
+use Rattle.term_reader.specs.declared.AtomParse.{AtomParse}
+use Rattle.term_reader.specs.declared.AtomParse.the-variants.{Atom as FoundAtom, Missing as MissingAtom, Fault as FaultAtom}
+use Rattle.term_reader.proofs.Parse.{enum}
+use Rattle.term_reader.proofs.AtomParse.{enum as atom-enum}
 use Rattle.goals.specs.declared.Path.{Path}
 use Rattle.goals.specs.Walking.{raisedTo, NodeIn, PathIn}
 use Rattle.goals.proofs.Reading.{same-value}
 use Rattle.goals.proofs.Walking.{Above, above-path, registers-terms, registers-bound}
-use Rattle.terms.proofs.Atoms.{told-expression, told-atom}
-use Rattle.terms.proofs.Substitution.{expression-substituted, atom-substituted}
+use Rattle.term_reader.proofs.Atoms.{told-expression, told-atom}
+use Rattle.term_reader.proofs.Substitution.{expression-substituted, atom-substituted}
 
 -- ---- answers that are no value
 found-mapped : {E A B : Type 0} (f : A → B) (x : Result E A) {b : B} → value b ≡ mapped f x → (a : A) × (x ≡ value a) × (b ≡ f a)
@@ -40,14 +40,14 @@ not-mapped f (value a) h k = let z : _≡_ {A = ℕ} 0 1 = cc in omega arith
 -- ---- what is found
 module _ (ws us source : List ℕ) (path : Path) (end at : ℕ) where
   pub record TermFound (number next t : ℕ) : Type 0 where
-    pub above : Above ws us path t 31
+    pub above : Above ws us path t mostNodes
     pub node : NodeIn us (raisedTo path t) number
     pub term : Term
     pub read : expressionAt source end registerCount at ≡ value (term, next)
     pub is : termAt us number ≡ substitute (map (termAt ws) (path .registers)) term
 
   pub record AtomFound (kind : Comparison) (left right next t : ℕ) : Type 0 where
-    pub above : Above ws us path t 62
+    pub above : Above ws us path t atomNodes
     pub left-node : NodeIn us (raisedTo path t) left
     pub right-node : NodeIn us (raisedTo path t) right
     pub term : Atom

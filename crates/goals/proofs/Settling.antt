@@ -15,18 +15,18 @@ use Rattle.model.specs.Derivation.{mostLevels, derive}
 use Rattle.model.specs.declared.Comparison.{Comparison}
 use Rattle.model.specs.declared.Refusal.{Refusal}
 use Rattle.model.specs.declared.Region.{Region}
-use Rattle.terms.specs.Workspace.{Same}
+use Rattle.workspace.specs.Layout.{Same}
 use Rattle.terms.specs.Table.{place, termAt}
-use Rattle.terms.specs.Reader.{AtomRead}
-use Rattle.terms.specs.declared.reader.AtomParse.{AtomParse}
-use Rattle.terms.specs.declared.reader.AtomParse.the-variants.{Atom as FoundAtom}
-use Rattle.terms.proofs.Frames.{same-refl, same-trans, same-within}
-use Rattle.terms.proofs.reader.AtomParse.{enum as atom-enum}
-use Rattle.derivation.specs.Parts.{claimOf}
-use Rattle.derivation.specs.Regions.{regionsOf}
+use Rattle.term_reader.specs.Reader.{AtomRead}
+use Rattle.term_reader.specs.declared.AtomParse.{AtomParse}
+use Rattle.term_reader.specs.declared.AtomParse.the-variants.{Atom as FoundAtom}
+use Rattle.workspace.proofs.Frames.{same-refl, same-trans, same-within}
+use Rattle.term_reader.proofs.AtomParse.{enum as atom-enum}
+use Rattle.claims.specs.Parts.{claimOf}
+use Rattle.claims.specs.Regions.{regionsOf}
 use Rattle.derivation.specs.Deriving.{Derivable, derivedOf, Onward, Derives}
-use Rattle.derivation.specs.declared.Claim.{Claim}
-use Rattle.derivation.specs.declared.Claim.the-variants.{Atom as AtomClaim}
+use Rattle.claims.specs.declared.Claim.{Claim}
+use Rattle.claims.specs.declared.Claim.the-variants.{Atom as AtomClaim}
 use Rattle.derivation.specs.declared.Derived.{Derived}
 use Rattle.derivation.specs.declared.Derived.the-variants.{Next as Derived-to, Refused as Not-derived}
 use Rattle.goals.specs.declared.Path.{Path}
@@ -43,7 +43,7 @@ use Rattle.goals.proofs.Found.{AtomFound, atom-found, no-atom}
 
 -- ---- one goal
 module _ {ws words bytes : List ℕ} {count : ℕ} {path : Path} {claim : Claim} {p : Progress} (y : Going ws words bytes count derivationRoom path p) where
-  pub goal-asks : ClaimIn ws path claim → Derivable ws words (scopeOf count path) 32 (path .top) claim
+  pub goal-asks : ClaimIn ws path claim → Derivable ws words (scopeOf count path) mostLevels (path .top) claim
   goal-asks n = record { prepared = y .inside .prepared count; regions = y .regions; space = y .space; below = n .below; bounded = n .bound }
 
   module _ {us : List ℕ} {d : Derived} (w : Derives bytes words ws us (scopeOf count path) mostLevels (path .top) claim (p .at) d) where

@@ -10,29 +10,30 @@ use lib.ListN.{length, getD}
 use denote.Enum.Declared.{tagOf, declared}
 use Rattle.model.specs.Result.{value}
 use Rattle.model.specs.Term.{Term, constant, variable}
-use Rattle.model.specs.Expression.{registerCount, expressionAt, atomAt, atomsAt}
+use Rattle.model.specs.Expression.{registerCount, expressionAt, atomAt, atomsAt, mostNodes}
 use Rattle.model.specs.declared.Comparison.{Comparison}
-use Rattle.model.specs.Atom.{Atom}
+use Rattle.model.specs.Atom.{Atom, mostAtoms}
 use Rattle.model.specs.Linear.{variableBound}
 use Rattle.model.specs.Goals.{Path as ModelPath, registerVariables, blockStart, assuming}
-use Rattle.terms.specs.Workspace.{workspaceWords, mostVariables, mostAssumptions, mostTableNodes, assumptionBase, tableBase, Same}
+use Rattle.model.specs.Verdict.{leastWorkspace}
+use Rattle.workspace.specs.Layout.{mostVariables, mostAssumptions, mostTableNodes, assumptionBase, tableBase, Same}
 use Rattle.terms.specs.Table.{place, termAt, Formed, Space, Put}
-use Rattle.terms.specs.Reader.{RegisterTerms, Ready, ExpressionRead, AtomRead}
-use Rattle.terms.specs.declared.reader.Parse.{Parse}
-use Rattle.terms.specs.declared.reader.Parse.the-variants.{Term as Found}
-use Rattle.terms.specs.declared.reader.AtomParse.{AtomParse}
-use Rattle.terms.specs.declared.reader.AtomParse.the-variants.{Atom as FoundAtom}
-use Rattle.terms.proofs.reader.Parse.{enum}
-use Rattle.terms.proofs.reader.AtomParse.{enum as atom-enum}
-use Rattle.terms.proofs.Atoms.{told-expression, told-atom}
-use Rattle.terms.proofs.Substitution.{expression-self, atom-self}
-use Rattle.terms.proofs.Frames.{same-refl, same-trans, same-within}
+use Rattle.term_reader.specs.Reader.{RegisterTerms, Ready, ExpressionRead, AtomRead}
+use Rattle.term_reader.specs.declared.Parse.{Parse}
+use Rattle.term_reader.specs.declared.Parse.the-variants.{Term as Found}
+use Rattle.term_reader.specs.declared.AtomParse.{AtomParse}
+use Rattle.term_reader.specs.declared.AtomParse.the-variants.{Atom as FoundAtom}
+use Rattle.term_reader.proofs.Parse.{enum}
+use Rattle.term_reader.proofs.AtomParse.{enum as atom-enum}
+use Rattle.term_reader.proofs.Atoms.{told-expression, told-atom}
+use Rattle.term_reader.proofs.Substitution.{expression-self, atom-self}
+use Rattle.workspace.proofs.Frames.{same-refl, same-trans, same-within}
 use Rattle.terms.proofs.Table.{formed-none, term-same}
 use Rattle.assumptions.specs.Area.{slot, listed, Listed, Pushed}
 use Rattle.assumptions.proofs.Laws.{held-same, listed-same, pushed-table, pushed-formed}
-use Rattle.derivation.specs.Opening.{registerNodes}
+use Rattle.rule_reader.specs.Opening.{registerNodes}
 use Rattle.derivation.specs.Deriving.{Prepared}
-use Rattle.derivation.proofs.OpeningLaws.{register-below}
+use Rattle.rule_reader.proofs.OpeningLaws.{register-below}
 use Rattle.goals.specs.declared.Path.{Path}
 use Rattle.goals.specs.Walking.{pathOf, raisedTo, NodeIn, PathIn}
 use Rattle.goals.specs.Starting.{assumedPath, Assumed, Workspace, Variables, startPath, Started, Fresh, assumingAll, AllAssumed, BlockIn, EntryBlock, AnnotationBlock}
@@ -97,13 +98,13 @@ module _ {ws us : List ℕ} {path : Path} {a : Atom} (y : PathIn ws path) (c : p
 pub record Filling (ws us : List ℕ) (n : ℕ) : Type 0 where
   pub is : Variables ws us n
   pub long : length us ≡ length ws
-  pub within : n ≤ 16
+  pub within : n ≤ registerCount
 
-module _ {ws : List ℕ} (w : workspaceWords ≤ length ws) where
+module _ {ws : List ℕ} (w : leastWorkspace ≤ length ws) where
   pub filling-none : Filling ws ws 0
   filling-none = record { is = record { kept = same-refl 0 tableBase ws; formed = formed-none w; are = λ v h. absurd (omega arith) }; long = refl; within = omega arith }
 
-  module _ {us : List ℕ} {n : ℕ} (f : Filling ws us n) (h : n < 16) where
+  module _ {us : List ℕ} {n : ℕ} (f : Filling ws us n) (h : n < registerCount) where
     pub filling-asks : Formed us n × (Space us n 1 × (n < mostVariables))
     filling-asks = (f .is .formed, (record { words = omega (arith, f .long); fits = omega arith }, omega arith))
 
@@ -122,11 +123,11 @@ module _ {ws : List ℕ} (w : workspaceWords ≤ length ws) where
     }
 
   -- all of them
-  pub filled : {us : List ℕ} {n : ℕ} → Filling ws us n → 16 ≤ n → Variables ws us 16
+  pub filled : {us : List ℕ} {n : ℕ} → Filling ws us n → registerCount ≤ n → Variables ws us registerCount
   filled {us} {n} f h = subst (Variables ws us) (omega (arith, f .within)) (f .is)
 
 -- ---- the start
-module _ {ws us : List ℕ} (w : Workspace ws) (f : Variables ws us 16) (index : ℕ) where
+module _ {ws us : List ℕ} (w : Workspace ws) (f : Variables ws us registerCount) (index : ℕ) where
   start-terms : map (termAt us) registerNodes ≡ registerVariables
   start-terms = map-same (termAt us) variable registerNodes (λ v h. f .are (getD registerNodes v 0) (register-below v h))
 
@@ -148,10 +149,10 @@ module _ {ws us : List ℕ} (w : Workspace ws) (f : Variables ws us 16) (index :
 
   pub started : Started us index (startPath index)
   unfolding listed
-  started = record { form = refl; inside = start-in; is = ap {B = ModelPath} (λ l. record { counter = index; steps = 0; registers = l; variables = 16; assumptions = [] }) start-terms }
+  started = record { form = refl; inside = start-in; is = ap {B = ModelPath} (λ l. record { counter = index; steps = 0; registers = l; variables = registerCount; assumptions = [] }) start-terms }
 
 -- ---- what is read over variables that stand for themselves
-own-registers : {ws registers : List ℕ} → length registers ≡ 16 → map (termAt ws) registers ≡ registerVariables → RegisterTerms ws registers registerVariables
+own-registers : {ws registers : List ℕ} → length registers ≡ registerCount → map (termAt ws) registers ≡ registerVariables → RegisterTerms ws registers registerVariables
 own-registers {ws} {registers} n e = record { is = λ v h. sym (map-at (termAt ws) registers v (constant 0) (omega arith)) ∙ ap (λ l. getD l v (constant 0)) e }
 
 module _ {ws us source : List ℕ} {path : Path} {end at : ℕ} (y : PathIn ws path) (own : map (termAt ws) (path .registers) ≡ registerVariables) where
@@ -203,9 +204,9 @@ module _ {ws source : List ℕ} {path : Path} {end at number : ℕ} (y : Fresh w
       found : AtomFound ws us source path end at kind left right next t
       found = atom-found (y .inside) l a f
 
-      pub assuming-asks : PathIn us m × (((m .assumptions < mostAssumptions) × (m .top ≤ mostTableNodes) × (workspaceWords ≤ length us)) × ((left < m .top) × (right < m .top)))
+      pub assuming-asks : PathIn us m × (((m .assumptions < mostAssumptions) × (m .top ≤ mostTableNodes) × (leastWorkspace ≤ length us)) × ((left < m .top) × (right < m .top)))
       assuming-asks = subst
-          (λ (x : Path). PathIn us x × (((x .assumptions < mostAssumptions) × (x .top ≤ mostTableNodes) × (workspaceWords ≤ length us)) × ((left < x .top) × (right < x .top))))
+          (λ (x : Path). PathIn us x × (((x .assumptions < mostAssumptions) × (x .top ≤ mostTableNodes) × (leastWorkspace ≤ length us)) × ((left < x .top) × (right < x .top))))
           (sym e) (
             found .above .inside,
             (
@@ -274,13 +275,13 @@ module _ {us : List ℕ} {index : ℕ} {first : Path} (s : Started us index firs
   start-is : pathOf us (startPath index) ≡ blockStart index []
   start-is = subst (λ (x : Path). pathOf us x ≡ blockStart index []) (s .form) (s .is)
 
-  pub start-asks : workspaceWords ≤ length us → Formed us 16 × Space us 16 1
+  pub start-asks : leastWorkspace ≤ length us → Formed us registerCount × Space us registerCount 1
   start-asks w = (start-path .prepared 0 .formed, record { words = w; fits = omega arith })
 
-  pub start-ready : workspaceWords ≤ length us → Ready us (first .registers) 16 31
+  pub start-ready : leastWorkspace ≤ length us → Ready us (first .registers) registerCount mostNodes
   start-ready w =
-      let room : Space us 16 31 = record { words = w; fits = omega arith } in
-      subst (λ (x : Path). Ready us (x .registers) 16 31) (sym (s .form)) (path-ready 31 (omega arith) start-path room)
+      let room : Space us registerCount mostNodes = record { words = w; fits = omega arith } in
+      subst (λ (x : Path). Ready us (x .registers) registerCount mostNodes) (sym (s .form)) (path-ready mostNodes (omega arith) start-path room)
 
   -- with the credit above the variables
   module _ {vs : List ℕ} {m : Path} {t n : ℕ} (a : Above us vs (startPath index) t n) (e : m ≡ raisedTo first t) where
@@ -290,7 +291,7 @@ module _ {us : List ℕ} {index : ℕ} {first : Path} (s : Started us index firs
     above-is : pathOf vs m ≡ blockStart index []
     above-is = ap (pathOf vs) raised-is ∙ path-same (a .kept) start-path ∙ start-is
 
-    pub block-asks : {number : ℕ} → number ≤ 16 → n ≤ 31 → workspaceWords ≤ length vs → Fresh vs m number
+    pub block-asks : {number : ℕ} → number ≤ mostAtoms → n ≤ mostNodes → leastWorkspace ≤ length vs → Fresh vs m number
     block-asks {number} h k w = record {
       inside = subst (PathIn vs) (sym raised-is) (a .inside);
       own = ap (λ (x : ModelPath). x .registers) above-is;
@@ -302,7 +303,7 @@ module _ {us : List ℕ} {index : ℕ} {first : Path} (s : Started us index firs
       pub block-credit : termAt xs credit ≡ termAt vs credit
       block-credit = term-same (m .top) (w .table) credit (omega (arith, ap (λ (x : Path). x .top) raised-is, c .below))
 
-      pub block-in : number ≤ 16 → n ≤ 31 → BlockIn xs index (record { path = p; credit = credit })
+      pub block-in : number ≤ mostAtoms → n ≤ mostNodes → BlockIn xs index (record { path = p; credit = credit })
       block-in h k = record {
         inside = w .inside;
         credit = record {
@@ -320,24 +321,24 @@ module _ {us : List ℕ} {index : ℕ} {first : Path} (s : Started us index firs
       block-is atoms next h = w .is atoms next h ∙ ap (λ x. assumingAll x atoms) above-is
 
   -- the block at instruction 0
-  module _ {vs : List ℕ} {limit : ℕ} (q : Put us vs 16 (constant limit)) (l : length vs ≡ length us) where
+  module _ {vs : List ℕ} {limit : ℕ} (q : Put us vs registerCount (constant limit)) (l : length vs ≡ length us) where
     pub entry-above : Above us vs (startPath index) 17 1
     entry-above = above-put start-path q l
 
-    entry-node : NodeIn vs (raisedTo (startPath index) 17) 16
+    entry-node : NodeIn vs (raisedTo (startPath index) (registerCount + 1)) registerCount
     unfolding variableBound
     entry-node = record { below = omega arith; bound = rw (q .is) (omega arith) }
 
-    pub entry-block : {xs source : List ℕ} {at number : ℕ} {m p : Path} → index ≡ 0 → number ≤ 16 → m ≡ raisedTo first 17 → AllAssumed vs xs m source (length source) at number p
-        → EntryBlock xs source at number limit (record { path = p; credit = 16 })
+    pub entry-block : {xs source : List ℕ} {at number : ℕ} {m p : Path} → index ≡ 0 → number ≤ mostAtoms → m ≡ raisedTo first (registerCount + 1) → AllAssumed vs xs m source (length source) at number p
+        → EntryBlock xs source at number limit (record { path = p; credit = registerCount })
     entry-block {xs} {p = p} z h e w = record {
-      block = subst (λ i. BlockIn xs i (record { path = p; credit = 16 })) z (block-in entry-above e entry-node w h (omega arith));
+      block = subst (λ i. BlockIn xs i (record { path = p; credit = registerCount })) z (block-in entry-above e entry-node w h (omega arith));
       credit = block-credit entry-above e entry-node w ∙ q .is;
       is = λ atoms next k. subst (λ i. pathOf xs p ≡ blockStart i atoms) z (block-is entry-above e entry-node w atoms next k);
     }
 
   -- the block at an annotation
-  module _ {vs bytes : List ℕ} {end : ℕ} (at : ℕ) (r : Parse) (l : length vs ≡ length us) (a : ExpressionRead us vs (first .registers) bytes end registerCount (at + 3) 16 r) where
+  module _ {vs bytes : List ℕ} {end : ℕ} (at : ℕ) (r : Parse) (l : length vs ≡ length us) (a : ExpressionRead us vs (first .registers) bytes end registerCount (at + 3) registerCount r) where
     pub annotation-unread : (tagOf (declared enum) r ≡ 1) ⊎ (tagOf (declared enum) r ≡ 2) → AnnotationBlock vs bytes end at index (record { path = first; credit = 0 })
     annotation-unread o = subst (λ (x : Path). AnnotationBlock vs bytes end at index (record { path = x; credit = 0 })) (sym (s .form)) (record {
       block = record {
@@ -353,13 +354,13 @@ module _ {us : List ℕ} {index : ℕ} {first : Path} (s : Started us index firs
     })
 
     module _ {credit next left t : ℕ} (f : r ≡ Found credit next left t) where
-      over-start : ExpressionRead us vs (startPath index .registers) bytes end registerCount (at + 3) 16 r
-      over-start = subst (λ (x : Path). ExpressionRead us vs (x .registers) bytes end registerCount (at + 3) 16 r) (s .form) a
+      over-start : ExpressionRead us vs (startPath index .registers) bytes end registerCount (at + 3) registerCount r
+      over-start = subst (λ (x : Path). ExpressionRead us vs (x .registers) bytes end registerCount (at + 3) registerCount r) (s .form) a
 
       pub annotation-found : TermFound us vs bytes (startPath index) end (at + 3) credit next t
       annotation-found = term-found start-path l over-start f
 
-      pub annotation-block : {xs : List ℕ} {number : ℕ} {m p : Path} → number ≡ getD bytes (at + 2) 0 → getD bytes (at + 2) 0 ≤ 16 → m ≡ raisedTo first t → AllAssumed vs xs m bytes end next number p
+      pub annotation-block : {xs : List ℕ} {number : ℕ} {m p : Path} → number ≡ getD bytes (at + 2) 0 → getD bytes (at + 2) 0 ≤ mostAtoms → m ≡ raisedTo first t → AllAssumed vs xs m bytes end next number p
           → AnnotationBlock xs bytes end at index (record { path = p; credit = credit })
       annotation-block {xs} {p = p} i h e w = record {
         block = block-in (annotation-found .above) e (annotation-found .node) w (omega arith) (omega arith);

@@ -9,10 +9,11 @@ use native.Mathlib.Decide.{decLt}
 use lib.ListN.{length, getD}
 use Rattle.model.specs.Term.{Term, constant, variable, sum, difference, substitute}
 use Rattle.model.specs.Linear.{variableBound}
-use Rattle.terms.specs.Workspace.{assumptionBase, tableBase, Same}
+use Rattle.model.specs.Expression.{registerCount}
+use Rattle.workspace.specs.Layout.{assumptionBase, tableBase, Same}
 use Rattle.terms.specs.Table.{place, termAt, Formed, Space, Put}
-use Rattle.terms.specs.Reader.{RegisterTerms, Ready}
-use Rattle.terms.proofs.Frames.{same-refl, same-trans, same-within}
+use Rattle.term_reader.specs.Reader.{RegisterTerms, Ready}
+use Rattle.workspace.proofs.Frames.{same-refl, same-trans, same-within}
 use Rattle.terms.proofs.Table.{term-same}
 use Rattle.assumptions.proofs.Laws.{listed-kept}
 use Rattle.goals.specs.declared.Path.{Path}
@@ -137,9 +138,9 @@ substitute-bound terms n k (difference s t) = omega (arith, substitute-bound ter
 -- they are over the path's variables
 pub registers-bound : {ws : List ℕ} {p : Path} → PathIn ws p → (t : Term) → variableBound (substitute (map (termAt ws) (p .registers)) t) ≤ p .variables
 unfolding variableBound
-registers-bound {ws} {p} h = substitute-bound (map (termAt ws) (p .registers)) (p .variables) (λ v. at v (decLt v 16))
+registers-bound {ws} {p} h = substitute-bound (map (termAt ws) (p .registers)) (p .variables) (λ v. at v (decLt v registerCount))
   where
-    at : (v : ℕ) → Dec (v < 16) → variableBound (getD (map (termAt ws) (p .registers)) v (constant 0)) ≤ p .variables
+    at : (v : ℕ) → Dec (v < registerCount) → variableBound (getD (map (termAt ws) (p .registers)) v (constant 0)) ≤ p .variables
     at v (yes k) = rw (map-at (termAt ws) (p .registers) v (constant 0) (omega (arith, h .sixteen))) (h .held v k .bound)
     at v (no k) = rw (map-beyond (termAt ws) (p .registers) v (constant 0) (omega (arith, h .sixteen))) (omega arith)
 

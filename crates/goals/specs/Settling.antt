@@ -11,7 +11,7 @@ use Rattle.model.specs.Expression.{registerCount, expressionAt, atomsAt}
 use Rattle.model.specs.Annotation.{Annotation}
 use Rattle.model.specs.Goals.{Claim, atom, Path, goalOf, atomGoals, arrival, returning}
 use Rattle.model.specs.declared.Region.{Region}
-use Rattle.terms.specs.Workspace.{Same}
+use Rattle.workspace.specs.Layout.{Same}
 use Rattle.terms.specs.Table.{place}
 use Rattle.goals.specs.declared.Progress.{Progress}
 use Rattle.goals.specs.declared.Judged.{Judged}

@@ -5,16 +5,17 @@ use Prim.Native.Nat.{ℕ, _+_, _*_, _<_, _≤_}
 use lib.ListN.{length, getD}
 use Rattle.model.specs.Result.{value}
 use Rattle.model.specs.Term.{constant, variable}
-use Rattle.model.specs.Atom.{Atom}
+use Rattle.model.specs.Atom.{Atom, mostAtoms}
 use Rattle.model.specs.Expression.{registerCount, mostNodes, expressionAt, atomsAt}
 use Rattle.model.specs.Annotation.{Annotation}
 use Rattle.model.specs.Goals.{registerVariables, blockStart, assuming, Path as ModelPath}
-use Rattle.terms.specs.Workspace.{workspaceWords, mostAssumptions, tableBase, Same}
+use Rattle.model.specs.Verdict.{leastWorkspace}
+use Rattle.workspace.specs.Layout.{mostAssumptions, tableBase, Same}
 use Rattle.terms.specs.Table.{termAt, place, Formed, Space}
-use Rattle.terms.specs.Reader.{atomNodes}
+use Rattle.term_reader.specs.Reader.{atomNodes}
 use Rattle.assumptions.specs.Area.{slot}
 use Rattle.linear.specs.Area.{Cleared}
-use Rattle.derivation.specs.Opening.{registerNodes}
+use Rattle.rule_reader.specs.Opening.{registerNodes}
 use Rattle.goals.specs.declared.Path.{Path}
 use Rattle.goals.specs.declared.blocks.Block.{Block}
 use Rattle.goals.specs.Walking.{pathOf, PathIn, NodeIn}
@@ -36,7 +37,7 @@ pub record Assumed (ws us : List ℕ) (path : Path) (a : Atom) (r : Path) : Type
 -- ---- the start
 -- a workspace that is long enough, with the words for coefficients clear
 pub record Workspace (ws : List ℕ) : Type 0 where
-  pub words : workspaceWords ≤ length ws
+  pub words : leastWorkspace ≤ length ws
   pub cleared : Cleared ws
 
 -- the first n nodes are the variables
@@ -46,7 +47,7 @@ pub record Variables (ws us : List ℕ) (n : ℕ) : Type 0 where
   pub are : (v : ℕ) → v < n → termAt us v ≡ variable v
 
 abbrev pub startPath : (index : ℕ) → Path
-startPath index = record { counter = index; steps = 0; variables = 16; assumptions = 0; top = 16; registers = registerNodes }
+startPath index = record { counter = index; steps = 0; variables = registerCount; assumptions = 0; top = registerCount; registers = registerNodes }
 
 pub record Started (us : List ℕ) (index : ℕ) (r : Path) : Type 0 where
   pub form : r ≡ startPath index
@@ -79,7 +80,7 @@ pub record AllAssumed (ws us : List ℕ) (path : Path) (source : List ℕ) (end 
 -- ---- blocks
 -- nodes of a block's start: the variables, a credit, sixteen atoms
 abbrev pub startRoom : ℕ
-startRoom = 16 + mostNodes + atomNodes * 16
+startRoom = registerCount + mostNodes + atomNodes * mostAtoms
 
 -- the block's path and its credit, at an index
 pub record BlockIn (us : List ℕ) (index : ℕ) (r : Block) : Type 0 where
@@ -87,9 +88,9 @@ pub record BlockIn (us : List ℕ) (index : ℕ) (r : Block) : Type 0 where
   pub credit : NodeIn us (r .path) (r .credit)
   pub counter : r .path .counter ≡ index
   pub steps : r .path .steps ≡ 0
-  pub variables : r .path .variables ≡ 16
+  pub variables : r .path .variables ≡ registerCount
   pub few : r .path .top ≤ startRoom
-  pub more : r .path .assumptions ≤ 16
+  pub more : r .path .assumptions ≤ mostAtoms
 
 -- the block at instruction 0: the precondition stands in the policy, so many atoms from a position on
 pub record EntryBlock (us policyBytes : List ℕ) (at number limit : ℕ) (r : Block) : Type 0 where

@@ -3,18 +3,20 @@ use mathlib.Core.Path.{_≡_}
 use mathlib.Core.List.{List, map}
 use Prim.Native.Nat.{ℕ, _+_, _*_, _<_, _≤_}
 use lib.ListN.{length, getD}
-use Rattle.model.specs.Expression.{registerCount}
+use Rattle.model.specs.Expression.{registerCount, mostNodes}
 use Rattle.model.specs.Linear.{variableBound}
 use Rattle.model.specs.Package.{mostInstructions}
 use Rattle.model.specs.Goals.{Path as ModelPath}
+use Rattle.model.specs.Derivation.{mostLevels}
 use Rattle.terms.specs.Table.{termAt, Space}
-use Rattle.terms.specs.Reader.{atomNodes}
+use Rattle.term_reader.specs.Reader.{atomNodes}
 use Rattle.assumptions.specs.Area.{listed}
-use Rattle.derivation.specs.declared.Claim.{Claim}
-use Rattle.derivation.specs.declared.Scope.{Scope}
-use Rattle.derivation.specs.Parts.{claimOf, ClaimBelow, ClaimBounded}
-use Rattle.derivation.specs.Regions.{RegionWords}
-use Rattle.derivation.specs.Deriving.{Prepared}
+use Rattle.claims.specs.declared.Claim.{Claim}
+use Rattle.claims.specs.declared.Scope.{Scope}
+use Rattle.claims.specs.Parts.{claimOf, ClaimBelow}
+use Rattle.model_laws.specs.Bounded.{ClaimBounded}
+use Rattle.claims.specs.Regions.{RegionWords}
+use Rattle.derivation.specs.Deriving.{Prepared, levelRoom}
 use Rattle.goals.specs.declared.Path.{Path}
 use Rattle.goals.specs.declared.Progress.{Progress}
 use Rattle.goals.specs.Judging.{Reached}
@@ -56,7 +58,7 @@ pub record PathIn (ws : List ℕ) (p : Path) : Type 0 where
 
 -- nodes that a derivation may need; those that the goal of an atom, a goal on the credit, and any of a path's goals may need
 abbrev pub derivationRoom : ℕ
-derivationRoom = 36 * 32
+derivationRoom = levelRoom * mostLevels
 
 abbrev pub atomRoom : ℕ
 atomRoom = atomNodes + derivationRoom
@@ -65,7 +67,7 @@ abbrev pub creditRoom : ℕ
 creditRoom = 2 + derivationRoom
 
 abbrev pub goalRoom : ℕ
-goalRoom = 96 + derivationRoom
+goalRoom = mostNodes + atomNodes + 3 + derivationRoom
 
 -- goals of the path can be derived, with so much room above its top
 pub record Going (ws words bytes : List ℕ) (count room : ℕ) (path : Path) (p : Progress) : Type 0 where

@@ -1,11 +1,15 @@
 // Where a block starts: its assumptions and its credit.
 use crate::Path;
+use limits::REGISTERS;
 use model::Comparison;
-use terms::reader::AtomParse;
-use terms::reader::Parse;
+use term_reader::AtomParse;
+use term_reader::Parse;
 ghost use Prim.Native.Nat.{_+_, _≤_, _<_};
 ghost use lib.ListN.{length, getD};
-ghost use Rattle.terms.specs.Workspace.{workspaceWords, mostAssumptions, mostTableNodes};
+ghost use Rattle.model.specs.Verdict.{leastWorkspace};
+ghost use Rattle.model.specs.Expression.{registerCount};
+ghost use Rattle.model.specs.Atom.{mostAtoms};
+ghost use Rattle.workspace.specs.Layout.{mostAssumptions, mostTableNodes};
 ghost use Rattle.terms.specs.Table.{termAt};
 ghost use Rattle.goals.specs.Walking.{PathIn};
 ghost use Rattle.goals.specs.Starting.{Assumed, Workspace, Variables, Started, Fresh, AllAssumed, EntryBlock, AnnotationBlock};
@@ -19,7 +23,7 @@ pub struct Block {
 // The path with a comparison of two nodes assumed besides.
 pub fn assuming(ws: &mut [u32], mut path: Path, kind: Comparison, left: usize, right: usize) -> Path
     requires { ⌜ PathIn (now ws) path ⌝ }
-    requires { ⌜ (path .assumptions < mostAssumptions) × (path .top ≤ mostTableNodes) × (workspaceWords ≤ length (now ws)) ⌝ }
+    requires { ⌜ (path .assumptions < mostAssumptions) × (path .top ≤ mostTableNodes) × (leastWorkspace ≤ length (now ws)) ⌝ }
     requires { ⌜ (left < path .top) × (right < path .top) ⌝ }
     ensures { λ r. ⌜ Assumed (now (ws .entry)) (now (ws .exit)) path (record { kind = kind; left = termAt (now (ws .entry)) left; right = termAt (now (ws .entry)) right }) r ⌝ }
 {
@@ -30,11 +34,11 @@ pub fn assuming(ws: &mut [u32], mut path: Path, kind: Comparison, left: usize, r
 
 // Puts variables 0 to 15 at nodes 0 to 15.
 fn variables(ws: &mut [u32])
-    requires { ⌜ workspaceWords ≤ length (now ws) ⌝ }
-    ensures { λ _. ⌜ Variables (now (ws .entry)) (now (ws .exit)) 16 ⌝ }
+    requires { ⌜ leastWorkspace ≤ length (now ws) ⌝ }
+    ensures { λ _. ⌜ Variables (now (ws .entry)) (now (ws .exit)) registerCount ⌝ }
 {
     let mut v = 0;
-    while v < 16 {
+    while v < REGISTERS {
         terms::put_variable(ws, v, v as u32);
         v += 1;
     }
@@ -50,9 +54,9 @@ fn start(ws: &mut [u32], index: usize) -> Path
     Path {
         counter: index,
         steps: 0,
-        variables: 16,
+        variables: REGISTERS,
         assumptions: 0,
-        top: 16,
+        top: REGISTERS,
         registers,
     }
 }
@@ -67,7 +71,7 @@ fn assume(source: &[u8], end: usize, at: usize, number: usize, ws: &mut [u32], p
         return path;
     }
     let registers = path.registers;
-    let read = terms::reader::atom(source, ws, end, 16, registers, at, path.top);
+    let read = term_reader::atom(source, ws, end, REGISTERS, registers, at, path.top);
     let AtomParse::Atom {
         kind,
         left,
@@ -86,32 +90,35 @@ fn assume(source: &[u8], end: usize, at: usize, number: usize, ws: &mut [u32], p
 // step limit.
 pub fn entry_block(policy: &[u8], at: usize, number: usize, limit: u32, ws: &mut [u32]) -> Block
     requires { ⌜ Workspace (now ws) ⌝ }
-    requires { ⌜ number ≤ 16 ⌝ }
+    requires { ⌜ number ≤ mostAtoms ⌝ }
     ensures { λ r. ⌜ EntryBlock (now (ws .exit)) (now (policy .entry)) at number limit r ⌝ }
 {
     let first = start(ws, 0);
-    terms::put_constant(ws, 16, limit);
+    terms::put_constant(ws, REGISTERS, limit);
     let path = assume(
         policy,
         policy.len(),
         at,
         number,
         ws,
-        crate::raised(first, 17),
+        crate::raised(first, REGISTERS + 1),
     );
-    Block { path, credit: 16 }
+    Block {
+        path,
+        credit: REGISTERS,
+    }
 }
 
 // The block at the annotation that stands at `at`, whose index is given: its atoms are assumed, and the credit is its own. Check 11 has read
 // the annotation before, so that it can be read here.
 pub fn annotation_block(bytes: &[u8], end: usize, at: usize, index: usize, ws: &mut [u32]) -> Block
     requires { ⌜ Workspace (now ws) ⌝ }
-    requires { ⌜ (end ≤ length (now bytes)) × (at + 2 < end) × (getD (now bytes) (at + 2) 0 ≤ 16) ⌝ }
+    requires { ⌜ (end ≤ length (now bytes)) × (at + 2 < end) × (getD (now bytes) (at + 2) 0 ≤ mostAtoms) ⌝ }
     ensures { λ r. ⌜ AnnotationBlock (now (ws .exit)) (now (bytes .entry)) end at index r ⌝ }
 {
     let first = start(ws, index);
     let registers = first.registers;
-    let read = terms::reader::expression(bytes, ws, end, 16, registers, at + 3, 16);
+    let read = term_reader::expression(bytes, ws, end, REGISTERS, registers, at + 3, REGISTERS);
     let Parse::Term {
         number: credit,
         next,

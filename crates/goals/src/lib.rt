@@ -1,20 +1,21 @@
 // Goals: each is made, derived at once where the proof has been read to, counted and forgotten.
 pub mod blocks;
 
-use derivation::Claim;
+use claims::Claim;
+use claims::Goal;
+use claims::Scope;
 use derivation::Derived;
-use derivation::Goal;
-use derivation::Scope;
+use limits::REGISTERS;
 use model::Comparison;
 use model::Refusal;
-use terms::reader::AtomParse;
-use terms::reader::Parse;
+use term_reader::AtomParse;
+use term_reader::Parse;
 ghost use mathlib.Core.Path.{_≡_};
 ghost use Prim.Native.Nat.{_+_, _≤_, _<_};
 ghost use lib.ListN.{length};
 ghost use Rattle.terms.specs.Table.{termAt};
-ghost use Rattle.derivation.specs.Parts.{claimOf};
-ghost use Rattle.derivation.specs.Regions.{regionsOf};
+ghost use Rattle.claims.specs.Parts.{claimOf};
+ghost use Rattle.claims.specs.Regions.{regionsOf};
 ghost use Rattle.goals.specs.Walking.{pathOf, raisedTo, NodeIn, ClaimIn, Going, derivationRoom, atomRoom, creditRoom, goalRoom};
 ghost use Rattle.goals.specs.Settling.{GoalJudged, AtomsJudged, CreditsJudged, ArrivalJudged, ReturnJudged};
 
@@ -38,7 +39,7 @@ pub struct Path {
     pub variables: usize,
     pub assumptions: usize,
     pub top: usize,
-    pub registers: [u32; 16],
+    pub registers: [u32; REGISTERS],
 }
 
 // A byte as a number.
@@ -109,7 +110,7 @@ fn atoms(
         return Judged::Next(progress);
     }
     let registers = path.registers;
-    let read = terms::reader::atom(source, ws, end, 16, registers, at, path.top);
+    let read = term_reader::atom(source, ws, end, REGISTERS, registers, at, path.top);
     let AtomParse::Atom {
         kind,
         left,
@@ -195,7 +196,7 @@ pub fn arrival(
     ensures { λ r. ⌜ ArrivalJudged (now (ws .entry)) (now (ws .exit)) (now (bytes .entry)) (regionsOf (now (regions .entry)) count) (path .top) (pathOf (now (ws .entry)) path) progress r (termAt (now (ws .entry)) credit) end at ⌝ }
 {
     let registers = path.registers;
-    let read = terms::reader::expression(bytes, ws, end, 16, registers, at + 3, path.top);
+    let read = term_reader::expression(bytes, ws, end, REGISTERS, registers, at + 3, path.top);
     let Parse::Term {
         number: owed,
         next,

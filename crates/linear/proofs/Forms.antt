@@ -13,7 +13,8 @@ use Rattle.model.specs.Word.{addW, subW}
 use Rattle.model.specs.Term.{Term, constant, variable, sum, difference}
 use Rattle.model.specs.Linear.{constantOf, coefficientOf, variableBound, sameCoefficients, sameForm}
 use Rattle.model.proofs.Words.{_≈_, same-word, add-cong, add-cancel, add-plain, sub-plain, add-below, sub-below}
-use Rattle.linear.specs.Area.{formIf, formAt, signed, allZero, constantWord, areaWords}
+use Rattle.workspace.specs.Layout.{constantWord, areaWords}
+use Rattle.linear.specs.Area.{formIf, formAt, signed, allZero}
 
 -- ---- words modulo 2^32
 -- the word that gives w when x is added to it is their difference

@@ -13,13 +13,13 @@ use lib.Dec.{eqb}
 use borrow.Author.Tests.{eqb-true}
 use Rattle.model.specs.Term.{Term, constant, variable, sum, difference}
 use Rattle.model.specs.Linear.{variableBound, sameForm}
-use Rattle.terms.specs.Workspace.{tableBase, Same}
+use Rattle.workspace.specs.Layout.{tableBase, Same, constantWord, areaWords}
 use Rattle.terms.specs.Table.{high, place, marksAt, viewOf, termAt, Formed}
 use Rattle.terms.specs.declared.Node.{Node}
 use Rattle.terms.specs.declared.Node.the-variants.{Constant, Variable, Sum, Difference}
-use Rattle.terms.proofs.Frames.{same-refl, same-within, same-trans}
+use Rattle.workspace.proofs.Frames.{same-refl, same-within, same-trans}
 use Rattle.terms.proofs.Table.{node-order, node-built, part, same-terms, term-same, formed-same}
-use Rattle.linear.specs.Area.{constantWord, areaWords, formAt, signed, Bounded, Accumulated, Cleared, Comparable, allZero, Taken, Emptied}
+use Rattle.linear.specs.Area.{formAt, signed, Bounded, Accumulated, Cleared, Comparable, allZero, Taken, Emptied}
 use Rattle.linear.specs.Weights.{Reckoned}
 use Rattle.linear.specs.Comparison.{comparisonOf}
 use Rattle.linear.proofs.Forms.{signed-zero, constant-here, constant-else, variable-here, variable-else, word-sum, word-difference, zeros-same-form, zero-beyond, same-form-refl}

@@ -15,12 +15,13 @@ use Rattle.model.specs.Term.{Term, constant, variable, sum, difference, eval, c
 use Rattle.model.specs.Linear.{constantOf, variableBound}
 use Rattle.model.proofs.Words.{_≈_, mul-cong, add-cong, add-plain, sub-plain, add-below}
 use Rattle.model.proofs.Terms.{and-left, and-right}
+use Rattle.workspace.specs.Layout.{constantWord, areaWords}
 use Rattle.terms.specs.Table.{place, partsAt, valueAt, marksAt, closedAt, nodeOfTag, viewOf, termAt, valueOf, InOrder, Formed}
 use Rattle.terms.specs.declared.Node.{Node}
 use Rattle.terms.specs.declared.Node.the-variants.{Constant, Variable, Sum, Difference}
 use Rattle.terms.proofs.Table.{beside, formed-less, node-order, node-built}
 use Rattle.terms.proofs.Walks.{closed-at, open-zero}
-use Rattle.linear.specs.Area.{constantWord, areaWords, formAt, Comparable}
+use Rattle.linear.specs.Area.{formAt, Comparable}
 use Rattle.linear.specs.Weights.{givenTo, total, Weighed, Weighable, Passed, Reckoned}
 use Rattle.linear.proofs.Forms.{form-word, form-coefficient, form-constant, form-sum, form-difference, coefficient-beyond, variable-here, variable-else, sub-only}
 

@@ -1,4 +1,4 @@
--- The coefficient area of the workspace: word v below 999 for variable v, word 999 for the constant. Assumes nothing.
+-- The coefficient area of the workspace: a word for each variable, and then one for the constant. Assumes nothing.
 use mathlib.Core.Path.{_≡_}
 use mathlib.Core.Logic.{_≢_}
 use mathlib.Core.Bool.{Bool, true, false, _&&_}
@@ -9,15 +9,8 @@ use lib.Dec.{eqb, ltb}
 use Rattle.model.specs.Word.{addW, subW}
 use Rattle.model.specs.Term.{Term}
 use Rattle.model.specs.Linear.{constantOf, coefficientOf, variableBound}
-use Rattle.terms.specs.Workspace.{Same}
+use Rattle.workspace.specs.Layout.{constantWord, areaWords, Same}
 use Rattle.terms.specs.Table.{termAt, Formed}
-
--- the constant's word, above those of the variables
-abbrev pub constantWord : ℕ
-constantWord = 999
-
-abbrev pub areaWords : ℕ
-areaWords = 1000
 
 -- the number of a term's linear form that belongs to word k
 abbrev pub formIf : Bool → ℕ → Term → ℕ

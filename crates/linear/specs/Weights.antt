@@ -9,9 +9,9 @@ use lib.ListN.{length, getD, set}
 use Rattle.model.specs.Word.{addW, subW}
 use Rattle.model.specs.Term.{Term}
 use Rattle.model.specs.Linear.{variableBound}
-use Rattle.terms.specs.Workspace.{Same}
+use Rattle.workspace.specs.Layout.{Same, constantWord, areaWords}
 use Rattle.terms.specs.Table.{place, valueAt, closedAt, termAt, Formed}
-use Rattle.linear.specs.Area.{constantWord, areaWords, formAt}
+use Rattle.linear.specs.Area.{formAt}
 
 -- w times the form of node k's term, given to the constant's word where the term is closed, else to the node's weight
 abbrev pub givenTo : Bool → List ℕ → (k w : ℕ) → List ℕ

@@ -1,11 +1,13 @@
-// Linear forms modulo 2^32 (rule 12), reckoned in the workspace's words 0 to 999: word v for variable v, word 999 for the constant.
+// Linear forms modulo 2^32 (rule 12), reckoned in the workspace's first words: word v for variable v, and one word for the constant.
 // They are all zero between uses. Small terms are walked as trees. For others each node of the table is visited once, from the last on:
 // the value of an open node, which is zero between uses, holds its weight, the number of times that the form of its term is to be added.
 use terms::Node;
+use workspace::CONSTANT;
 ghost use mathlib.Core.Path.{_≡_};
 ghost use Prim.Native.Nat.{suc, _*_, _%_, _^_, _≤_, _<_, max};
 ghost use lib.ListN.{length, getD, set};
 ghost use Rattle.model.specs.Linear.{sameForm};
+ghost use Rattle.workspace.specs.Layout.{constantWord, areaWords};
 ghost use Rattle.terms.specs.Table.{place, closedAt, termAt};
 ghost use Rattle.linear.specs.Area.{signed, Bounded, Accumulated, Taken, Emptied, Comparable};
 ghost use Rattle.linear.specs.Weights.{givenTo, Weighable, Passed, Reckoned};
@@ -17,8 +19,8 @@ pub enum FormComparison {
     Different,
 }
 
-// The constant's word.
-const CONSTANT: usize = 999;
+// Terms of at most so many nodes are walked as trees.
+const SMALL: u32 = 32;
 
 // Adds x to a word, or subtracts it.
 fn change(ws: &mut [u32], at: usize, x: u32, negative: bool)
@@ -34,7 +36,7 @@ fn change(ws: &mut [u32], at: usize, x: u32, negative: bool)
 
 // Adds the linear form of node i's term to the area, or subtracts it.
 fn accumulate(ws: &mut [u32], i: usize, negative: bool)
-    requires { ⌜ Bounded (now ws) i 999 ⌝ }
+    requires { ⌜ Bounded (now ws) i constantWord ⌝ }
     ensures { λ _. ⌜ Accumulated (now (ws .entry)) (now (ws .exit)) negative (termAt (now (ws .entry)) i) ⌝ }
 {
     match terms::view(ws, i) {
@@ -77,7 +79,7 @@ fn empty_coefficients(ws: &mut [u32], variables: usize) -> bool
 
 // Whether the constant and the coefficients of the first variables are all zero; they are zero afterwards.
 fn empty(ws: &mut [u32], variables: usize) -> bool
-    requires { ⌜ (variables ≤ 999) × (1000 ≤ length (now ws)) ⌝ }
+    requires { ⌜ (variables ≤ constantWord) × (areaWords ≤ length (now ws)) ⌝ }
     ensures { λ r. ⌜ Emptied (now (ws .entry)) (now (ws .exit)) variables r ⌝ }
 {
     let coefficients = empty_coefficients(ws, variables);
@@ -159,7 +161,7 @@ fn spread(ws: &mut [u32], nodes: usize)
 
 // Adds the linear form of node i's term to the area, which is zero, and subtracts that of node j's, node by node.
 fn reckon_by_table(ws: &mut [u32], i: usize, j: usize)
-    requires { ⌜ Comparable (now ws) i j 999 ⌝ }
+    requires { ⌜ Comparable (now ws) i j constantWord ⌝ }
     ensures { λ _. ⌜ Reckoned (now (ws .entry)) (now (ws .exit)) (termAt (now (ws .entry)) i) (termAt (now (ws .entry)) j) ⌝ }
 {
     give(ws, i, 1);
@@ -172,10 +174,10 @@ fn reckon_by_table(ws: &mut [u32], i: usize, j: usize)
 
 // Adds the linear form of node i's term to the area, which is zero, and subtracts that of node j's.
 fn reckon(ws: &mut [u32], i: usize, j: usize)
-    requires { ⌜ Comparable (now ws) i j 999 ⌝ }
+    requires { ⌜ Comparable (now ws) i j constantWord ⌝ }
     ensures { λ _. ⌜ Reckoned (now (ws .entry)) (now (ws .exit)) (termAt (now (ws .entry)) i) (termAt (now (ws .entry)) j) ⌝ }
 {
-    if terms::at_most(ws, i, 32) & terms::at_most(ws, j, 32) {
+    if terms::at_most(ws, i, SMALL) & terms::at_most(ws, j, SMALL) {
         accumulate(ws, i, false);
         accumulate(ws, j, true);
     } else {

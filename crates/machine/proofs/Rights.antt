@@ -7,7 +7,7 @@ use native.Mathlib.Numerals.{add-one}
 use mathlib.Core.List.{List}
 use lib.ListN.{length, getD, take, drop-of-length-le}
 use lib.Seq.{slice, slice-cons, length-take-le}
-use Rattle.model.specs.Policy.{covers, someRegion}
+use Rattle.model.specs.Policy.{mostRegions, covers, someRegion}
 use Rattle.model.specs.declared.Region.{Region}
 
 -- what an element beyond an array reads as
@@ -20,7 +20,7 @@ pub record Searching (right : Region → Bool) (regions : List Region) (count w 
   pub rest : someRegion right (take count regions) w ≡ someRegion right (slice j count regions) w
 
 module _ (right : Region → Bool) (regions : List Region) (count w : ℕ) where
-  pub begin : count ≤ 8 → length regions ≡ 8 → Searching right regions count w 0
+  pub begin : count ≤ mostRegions → length regions ≡ mostRegions → Searching right regions count w 0
   begin h l = record { within = omega arith; rest = refl }
 
   module _ (j : ℕ) (s : Searching right regions count w j) where

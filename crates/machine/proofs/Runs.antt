@@ -8,6 +8,7 @@ use native.Mathlib.Nat.{sub-zero}
 use lib.ListN.{length, getD, take, getElem?, length-map, List·getD-map}
 use lib.Seq.{length-take-le, getD-take}
 use Rattle.model.specs.Policy.{Policy}
+use Rattle.model.specs.Package.{mostInstructions}
 use Rattle.model.specs.Machine.{State, Step, startOf, next, returns, without-right, past-end, step}
 use Rattle.model.specs.Runner.{Run, stopped, runFrom}
 use Rattle.model.specs.declared.Region.{Region}
@@ -53,7 +54,7 @@ in-range n Return f = tt
 
 -- what the loop keeps: the whole run is the run from here on
 pub record Going (lines : List Line) (size : ℕ) (regions : List Region) (count : ℕ) (registers₀ memory₀ : List ℕ) (budget : ℕ) (registers memory : List ℕ) (counter steps : ℕ) : Type 0 where
-  pub whole : length lines ≡ 256
+  pub whole : length lines ≡ mostInstructions
   pub runnable : Runnable lines size count registers₀
   pub within : steps ≤ budget
   pub as-many : length registers ≡ length registers₀
@@ -78,7 +79,7 @@ module _ (lines : List Line) (size : ℕ) (regions : List Region) (count : ℕ) 
       → Promised r registers memory
   promise r registers memory e = record { run = e; steps = λ p u. rw (e p u) (counted p code (startOf registers₀ memory₀) budget) }
 
-  pub begin : length lines ≡ 256 → Runnable lines size count registers₀ → Going lines size regions count registers₀ memory₀ budget registers₀ memory₀ 0 0
+  pub begin : length lines ≡ mostInstructions → Runnable lines size count registers₀ → Going lines size regions count registers₀ memory₀ budget registers₀ memory₀ 0 0
   begin l r = record { whole = l; runnable = r; within = omega arith; as-many = refl; as-long = refl; rest = λ p u. rw sub-zero }
 
   module _ (registers memory : List ℕ) (counter steps : ℕ) (g : Going lines size regions count registers₀ memory₀ budget registers memory counter steps) where

@@ -3,7 +3,9 @@ use mathlib.Core.Path.{_≡_}
 use mathlib.Core.List.{List}
 use Prim.Native.Nat.{ℕ, _≤_}
 use lib.ListN.{length}
-use Rattle.model.specs.Policy.{Policy}
+use Rattle.model.specs.Policy.{Policy, mostRegions}
+use Rattle.model.specs.Expression.{registerCount}
+use Rattle.model.specs.Package.{mostInstructions}
 use Rattle.model.specs.Machine.{startOf}
 use Rattle.model.specs.Runner.{runFrom}
 use Rattle.model.specs.declared.Region.{Region}
@@ -16,9 +18,9 @@ use Rattle.machine.specs.Counted.{Counted}
 
 -- what a run asks of its arguments: the code is in the first `size` lines
 pub record Runnable (lines : List Line) (size count : ℕ) (registers : List ℕ) : Type 0 where
-  pub short : size ≤ 256
-  pub few : count ≤ 8
-  pub sixteen : length registers ≡ 16
+  pub short : size ≤ mostInstructions
+  pub few : count ≤ mostRegions
+  pub sixteen : length registers ≡ registerCount
   pub formed : AllFormed size lines
 
 -- the outcome, and the registers and memory left, under every policy of that memory size with these regions

@@ -4,7 +4,9 @@ use mathlib.Core.Bool.{Bool, true, false}
 use mathlib.Core.List.{List}
 use Prim.Native.Nat.{ℕ, _+_, _≤_, _<_}
 use lib.ListN.{length}
-use Rattle.model.specs.Policy.{Policy}
+use Rattle.model.specs.Policy.{Policy, mostRegions}
+use Rattle.model.specs.Expression.{registerCount}
+use Rattle.model.specs.Package.{mostInstructions}
 use Rattle.model.specs.Machine.{State, Step, next, returns, without-right, execute}
 use Rattle.model.specs.declared.Region.{Region}
 use Rattle.model.specs.declared.Instruction.{Instruction}
@@ -12,24 +14,24 @@ use Rattle.model.specs.declared.Instruction.the-variants.{Set, Add, AddImmediat
 use Rattle.machine.specs.declared.Progress.{Progress}
 use Rattle.machine.specs.declared.Progress.the-variants.{Next, Returned, WithoutRight}
 
--- the instruction's registers are below 16
+-- the instruction's registers are among the sixteen
 abbrev pub InRange : Instruction → Type 0
-InRange (Set d i) = d < 16
-InRange (Add d a b) = (d < 16) × ((a < 16) × (b < 16))
-InRange (AddImmediate d a i) = (d < 16) × (a < 16)
-InRange (Subtract d a b) = (d < 16) × ((a < 16) × (b < 16))
-InRange (Load d a i) = (d < 16) × (a < 16)
-InRange (Store d a i) = (d < 16) × (a < 16)
+InRange (Set d i) = d < registerCount
+InRange (Add d a b) = (d < registerCount) × ((a < registerCount) × (b < registerCount))
+InRange (AddImmediate d a i) = (d < registerCount) × (a < registerCount)
+InRange (Subtract d a b) = (d < registerCount) × ((a < registerCount) × (b < registerCount))
+InRange (Load d a i) = (d < registerCount) × (a < registerCount)
+InRange (Store d a i) = (d < registerCount) × (a < registerCount)
 InRange (Jump i) = Unit
-InRange (JumpLess a b i) = (a < 16) × (b < 16)
-InRange (JumpEqual a b i) = (a < 16) × (b < 16)
+InRange (JumpLess a b i) = (a < registerCount) × (b < registerCount)
+InRange (JumpEqual a b i) = (a < registerCount) × (b < registerCount)
 InRange Return = Unit
 
 -- what a step asks of its arguments
 pub record Ready (counter count : ℕ) (registers : List ℕ) (instruction : Instruction) : Type 0 where
-  pub low : counter < 256
-  pub few : count ≤ 8
-  pub sixteen : length registers ≡ 16
+  pub low : counter < mostInstructions
+  pub few : count ≤ mostRegions
+  pub sixteen : length registers ≡ registerCount
   pub in-range : InRange instruction
 
 abbrev pub state : (counter : ℕ) (registers memory : List ℕ) → State

@@ -1,4 +1,6 @@
 // The machine: rights, one step on lent registers and memory, and the budgeted run.
+use limits::MOST_INSTRUCTIONS;
+use limits::MOST_REGIONS;
 use model::Instruction;
 use model::Outcome;
 use model::Region;
@@ -7,7 +9,8 @@ ghost use mathlib.Core.Path.{_≡_};
 ghost use mathlib.Core.Bool.{_&&_};
 ghost use Prim.Native.Nat.{_+_, _≤_, _<_};
 ghost use lib.ListN.{length, getD, take, set};
-ghost use Rattle.model.specs.Policy.{covers, someRegion};
+ghost use Rattle.model.specs.Policy.{mostRegions, covers, someRegion};
+ghost use Rattle.model.specs.Package.{mostInstructions};
 ghost use Rattle.routine.specs.Code.{instructionsOf};
 ghost use Rattle.machine.specs.Right.{grants, permits};
 ghost use Rattle.machine.specs.Step.{Ready, target, state, Executed};
@@ -23,8 +26,8 @@ fn gives(region: Region, right: u32, w: usize) -> bool
 }
 
 // Whether some of the first `count` regions gives the right to the word.
-fn some_region(regions: [Region; 8], count: usize, right: u32, w: usize) -> bool
-    requires { ⌜ count ≤ 8 ⌝ }
+fn some_region(regions: [Region; MOST_REGIONS], count: usize, right: u32, w: usize) -> bool
+    requires { ⌜ count ≤ mostRegions ⌝ }
     ensures { λ r. ⌜ r ≡ someRegion (grants right) (take count regions) w ⌝ }
 {
     let mut j: usize = 0;
@@ -38,16 +41,16 @@ fn some_region(regions: [Region; 8], count: usize, right: u32, w: usize) -> bool
 }
 
 // Whether the word may be read.
-pub fn readable(regions: [Region; 8], count: usize, memory: usize, w: usize) -> bool
-    requires { ⌜ count ≤ 8 ⌝ }
+pub fn readable(regions: [Region; MOST_REGIONS], count: usize, memory: usize, w: usize) -> bool
+    requires { ⌜ count ≤ mostRegions ⌝ }
     ensures { λ r. ⌜ r ≡ permits 1 memory (take count regions) w ⌝ }
 {
     (w < memory) & some_region(regions, count, 1, w)
 }
 
 // Whether the word may be written.
-pub fn writable(regions: [Region; 8], count: usize, memory: usize, w: usize) -> bool
-    requires { ⌜ count ≤ 8 ⌝ }
+pub fn writable(regions: [Region; MOST_REGIONS], count: usize, memory: usize, w: usize) -> bool
+    requires { ⌜ count ≤ mostRegions ⌝ }
     ensures { λ r. ⌜ r ≡ permits 2 memory (take count regions) w ⌝ }
 {
     (w < memory) & some_region(regions, count, 2, w)
@@ -70,7 +73,7 @@ fn word(registers: &[u32], r: u8) -> u32
 
 // words[at] := w, and on to the next instruction.
 fn put(words: &mut [u32], at: usize, w: u32, counter: usize) -> Progress
-    requires { ⌜ (at < length (now words)) × (counter < 256) ⌝ }
+    requires { ⌜ (at < length (now words)) × (counter < mostInstructions) ⌝ }
     ensures { λ r. ⌜ (r ≡ Progress.Next (counter + 1)) × (now (words .exit) ≡ set (now (words .entry)) at w) ⌝ }
 {
     words[at] = w;
@@ -79,7 +82,7 @@ fn put(words: &mut [u32], at: usize, w: u32, counter: usize) -> Progress
 
 // d := w.
 fn assign(d: u8, w: u32, counter: usize, registers: &mut [u32]) -> Progress
-    requires { ⌜ (d < length (now registers)) × (counter < 256) ⌝ }
+    requires { ⌜ (d < length (now registers)) × (counter < mostInstructions) ⌝ }
     ensures { λ r. ⌜ (r ≡ Progress.Next (counter + 1)) × (now (registers .exit) ≡ set (now (registers .entry)) d w) ⌝ }
 {
     put(registers, d as usize, w, counter)
@@ -87,7 +90,7 @@ fn assign(d: u8, w: u32, counter: usize, registers: &mut [u32]) -> Progress
 
 // A jump to i if the branch is taken.
 fn branch(taken: bool, i: u32, counter: usize) -> Progress
-    requires { ⌜ counter < 256 ⌝ }
+    requires { ⌜ counter < mostInstructions ⌝ }
     ensures { λ r. ⌜ r ≡ Progress.Next (target taken i counter) ⌝ }
 {
     if taken {
@@ -102,7 +105,7 @@ fn load(
     a: u8,
     i: u32,
     counter: usize,
-    regions: [Region; 8],
+    regions: [Region; MOST_REGIONS],
     count: usize,
     registers: &mut [u32],
     memory: &[u32],
@@ -124,7 +127,7 @@ fn store(
     a: u8,
     i: u32,
     counter: usize,
-    regions: [Region; 8],
+    regions: [Region; MOST_REGIONS],
     count: usize,
     registers: &[u32],
     memory: &mut [u32],
@@ -144,7 +147,7 @@ fn store(
 pub fn execute(
     instruction: Instruction,
     counter: usize,
-    regions: [Region; 8],
+    regions: [Region; MOST_REGIONS],
     count: usize,
     registers: &mut [u32],
     memory: &mut [u32],
@@ -203,9 +206,9 @@ fn stopped(number: u32, counter: usize, steps: u32) -> Outcome
 
 // Runs the first `size` lines from the first on, until a return, an access without the right, a counter at the end, or the end of the budget.
 pub fn run_code(
-    code: [Line; 256],
+    code: [Line; MOST_INSTRUCTIONS],
     size: usize,
-    regions: [Region; 8],
+    regions: [Region; MOST_REGIONS],
     count: usize,
     registers: &mut [u32],
     memory: &mut [u32],

@@ -6,7 +6,7 @@ use mathlib.Core.List.{List, [], _∷_}
 use lib.Dec.{leb, ltb, eqb}
 use Rattle.model.specs.Result.{Result, value, _>>=_, check, stopAs}
 use Rattle.model.specs.Term.{Term}
-use Rattle.model.specs.Atom.{Atom}
+use Rattle.model.specs.Atom.{Atom, mostAtoms}
 use Rattle.model.specs.Field.{ReadError, missing, fault, byteAt, halfAt}
 use Rattle.model.specs.Expression.{registerCount, expressionAt, atomsAt}
 use Rattle.model.specs.Package.{annotationStart, proofStart}
@@ -40,7 +40,7 @@ module _ (bytes : List ℕ) (h : Header) where
     index ← annotationField (halfAt bytes (proofStart h) p)
     _ ← check (leb lowest index && ltb index (h .instructions)) (BadAnnotation p)
     count ← annotationField (byteAt bytes (proofStart h) (p + 2))
-    _ ← check (leb count 16) (BadAnnotation (p + 2))
+    _ ← check (leb count mostAtoms) (BadAnnotation (p + 2))
     (credit, q) ← annotationField (expressionAt bytes (proofStart h) registerCount (p + 3))
     (atoms, r) ← annotationField (atomsAt bytes (proofStart h) registerCount count q)
     value (record { index = index; credit = credit; atoms = atoms }, r)

@@ -28,6 +28,10 @@ pub record Goal : Type 0 where
   pub instruction : ℕ
   pub claim : Claim
 
+-- "A register's term has at most 255 nodes"
+abbrev pub mostTermNodes : ℕ
+mostTermNodes = 255
+
 -- what evaluation gives: goals, one after the other, and then the end or a refusal
 pub data Trace : Type 0 where
   goal : Goal → Trace → Trace
@@ -123,7 +127,7 @@ smallEnough true index t = goes [] t
 smallEnough false index t = refused (LargeTerm index)
 
 unfoldable pub assign : Path → (d : ℕ) → Term → Move
-assign s d t = smallEnough (leb (size t) 255) (s .counter) (onward (assigning s d t))
+assign s d t = smallEnough (leb (size t) mostTermNodes) (s .counter) (onward (assigning s d t))
 
 module _ (policy : Policy) (routine : Routine) where
   module _ (credit : Term) where

@@ -6,7 +6,7 @@ use lib.ListN.{length}
 use lib.Dec.{leb, ltb, eqb}
 use Rattle.model.specs.Result.{Result, value, _>>=_, check, stopAs}
 use Rattle.model.specs.Word.{le32}
-use Rattle.model.specs.Atom.{Atom}
+use Rattle.model.specs.Atom.{Atom, mostAtoms}
 use Rattle.model.specs.Field.{ReadError, missing, fault, byteAt, wordAt}
 use Rattle.model.specs.Expression.{registerCount, atomsAt}
 use Rattle.model.specs.declared.Region.{Region}
@@ -46,6 +46,13 @@ writableWord policy w = ltb w (policy .memory) && someRegion mayWrite (policy .r
 
 -- ---- reading
 
+-- "region count (1 byte, 1 to 8)", "M (4 bytes, 1 to 16,384)"
+abbrev pub mostRegions : ℕ
+mostRegions = 8
+
+abbrev pub mostMemory : ℕ
+mostMemory = 16384
+
 -- "length 1 or more and base plus length, as whole numbers, at most M", and rights 1, 2 or 3
 unfoldable pub regionFits : (memory : ℕ) → Region → Bool
 regionFits memory r = leb 1 (r .rights) && leb 1 (r .size) && leb (r .base + r .size) memory
@@ -63,15 +70,15 @@ module _ (bytes : List ℕ) where
   unfoldable pub sizesOf : Result Refusal Sizes
   sizesOf = do
     regions ← policyField (byteAt bytes (length bytes) 0)
-    _ ← check (leb 1 regions && leb regions 8) (PolicySize 0)
+    _ ← check (leb 1 regions && leb regions mostRegions) (PolicySize 0)
     pre ← policyField (byteAt bytes (length bytes) 1)
-    _ ← check (leb pre 16) (PolicySize 1)
+    _ ← check (leb pre mostAtoms) (PolicySize 1)
     post ← policyField (byteAt bytes (length bytes) 2)
-    _ ← check (leb post 16) (PolicySize 2)
+    _ ← check (leb post mostAtoms) (PolicySize 2)
     reserved ← policyField (byteAt bytes (length bytes) 3)
     _ ← check (eqb reserved 0) (PolicySize 3)
     memory ← policyField (wordAt bytes (length bytes) 4)
-    _ ← check (leb 1 memory && leb memory 16384) (PolicySize 4)
+    _ ← check (leb 1 memory && leb memory mostMemory) (PolicySize 4)
     limit ← policyField (wordAt bytes (length bytes) 8)
     value (record { regions = regions; precondition = pre; postcondition = post; memory = memory; limit = limit })
 

@@ -11,8 +11,9 @@ use Rattle.model.specs.Linear.{variableBound}
 use Rattle.model.specs.Goals.{Claim, Goal, Path as ModelPath, goes, goalOf, onward, loading, assigning}
 use Rattle.model.specs.declared.Region.{Region}
 use Rattle.model.specs.declared.Refusal.{Refusal}
+use Rattle.model.specs.Expression.{registerCount}
 use Rattle.terms.specs.Table.{place, termAt, Put}
-use Rattle.terms.proofs.Frames.{same-trans, same-within}
+use Rattle.workspace.proofs.Frames.{same-trans, same-within}
 use Rattle.goals.specs.declared.Path.{Path}
 use Rattle.goals.specs.declared.Progress.{Progress}
 use Rattle.goals.specs.declared.Judged.{Judged}
@@ -21,8 +22,8 @@ use Rattle.moves.specs.declared.Moved.{Moved}
 use Rattle.moves.specs.declared.MovedAnswer.the-variants.{On, Refused}
 use Rattle.goals.specs.Judging.{Reached, ReachedAfter, Judges}
 use Rattle.goals.specs.Walking.{pathOf, raisedTo, ClaimIn, PathIn, Going, derivationRoom}
-use Rattle.derivation.specs.declared.Claim.the-variants.{Readable, Writable}
-use Rattle.derivation.specs.Regions.{RegionWords}
+use Rattle.claims.specs.declared.Claim.the-variants.{Readable, Writable}
+use Rattle.claims.specs.Regions.{RegionWords}
 use Rattle.goals.specs.Settling.{GoalJudged}
 use Rattle.moves.specs.Moves.{steppedTo, writtenTo, oneVariable, RoomFor, Built, Kept, Advanced, MoveJudged, Accesses, Loads}
 use Rattle.moves.proofs.Moving.{move-on, move-stopped}
@@ -33,7 +34,7 @@ variable-bound : (v : ℕ) → variableBound (variable v) ≤ v + 1
 unfolding variableBound
 variable-bound v = omega arith
 
-module _ {ws us : List ℕ} {path : Path} {d : ℕ} (p : Progress) (g : RoomFor ws path 1) (long : length us ≡ length ws) (below : d < 16) (u : Put ws us (path .top) (variable (path .variables))) where
+module _ {ws us : List ℕ} {path : Path} {d : ℕ} (p : Progress) (g : RoomFor ws path 1) (long : length us ≡ length ws) (below : d < registerCount) (u : Put ws us (path .top) (variable (path .variables))) where
   abbrev higher : Path
   higher = oneVariable (raisedTo path (path .top + 1))
 

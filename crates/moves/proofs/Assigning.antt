@@ -9,11 +9,13 @@ use lib.Dec.{leb}
 use lib.ListN.{length, getD}
 use Rattle.model.specs.Term.{Term, constant, sum, size}
 use Rattle.model.specs.Linear.{variableBound}
-use Rattle.model.specs.Goals.{Path as ModelPath, termOf, onward, pathTo, assigning, goes, smallEnough, assign}
+use Rattle.model.specs.Goals.{Path as ModelPath, termOf, onward, pathTo, assigning, goes, smallEnough, assign, mostTermNodes}
 use Rattle.model.specs.declared.Refusal.the-variants.{LargeTerm}
-use Rattle.terms.specs.Workspace.{tableBase}
+use Rattle.model.specs.Expression.{registerCount}
+use Rattle.model.specs.Package.{mostInstructions}
+use Rattle.workspace.specs.Layout.{tableBase}
 use Rattle.terms.specs.Table.{place, termAt, Formed, Space, Put}
-use Rattle.terms.proofs.Frames.{same-trans, same-within}
+use Rattle.workspace.proofs.Frames.{same-trans, same-within}
 use Rattle.terms.proofs.Table.{term-same, formed-less}
 use Rattle.goals.specs.declared.Path.{Path}
 use Rattle.goals.specs.declared.Progress.{Progress}
@@ -38,7 +40,7 @@ unfolding variableBound
 constant-bound c n = omega arith
 
 -- the term of a register's node
-named-term : {ws : List ℕ} {path : Path} {a x : ℕ} → PathIn ws path → a < 16 → x ≡ getD (path .registers) a 0 → termAt ws x ≡ termOf (pathOf ws path) a
+named-term : {ws : List ℕ} {path : Path} {a x : ℕ} → PathIn ws path → a < registerCount → x ≡ getD (path .registers) a 0 → termAt ws x ≡ termOf (pathOf ws path) a
 named-term {ws} {a = a} w h e = ap (termAt ws) e ∙ register-term w a h
 
 module _ {ws us : List ℕ} {path : Path} (w : PathIn ws path) (long : length us ≡ length ws) where
@@ -55,7 +57,7 @@ module _ {ws us : List ℕ} {path : Path} (w : PathIn ws path) (long : length us
   pub constant-built : {c : ℕ} → Put ws us (path .top) (constant c) → Built ws us path 1 (path .top) (constant c)
   constant-built {c} u = put-built (constant-bound c (path .variables)) u
 
-  module _ {a b x y : ℕ} (ha : a < 16) (hb : b < 16) (ex : x ≡ getD (path .registers) a 0) (ey : y ≡ getD (path .registers) b 0) where
+  module _ {a b x y : ℕ} (ha : a < registerCount) (hb : b < registerCount) (ex : x ≡ getD (path .registers) a 0) (ey : y ≡ getD (path .registers) b 0) where
     pub combined-built : (o : Operation) → Put ws us (path .top) (combined o (termAt ws x) (termAt ws y)) → Built ws us path 1 (path .top) (combined o (termOf (pathOf ws path) a) (termOf (pathOf ws path) b))
     combined-built o u = rw (← named-term w ha ex, ← named-term w hb ey) (put-built (combined-bound o _ _ (path .variables) (rw ex (w .held a ha .bound)) (rw ey (w .held b hb .bound))) u)
 
@@ -64,7 +66,7 @@ pub first-room : {ws : List ℕ} {path : Path} → RoomFor ws path 1 → Formed 
 first-room g = (g .path-in .prepared 0 .formed, record { words = g .words; fits = omega (arith, g .nodes) })
 
 -- the nodes of two registers, and the room for a node over them
-module _ {ws : List ℕ} {path : Path} {a b x y : ℕ} (ha : a < 16) (hb : b < 16) (ex : x ≡ getD (path .registers) a 0) (ey : y ≡ getD (path .registers) b 0) where
+module _ {ws : List ℕ} {path : Path} {a b x y : ℕ} (ha : a < registerCount) (hb : b < registerCount) (ex : x ≡ getD (path .registers) a 0) (ey : y ≡ getD (path .registers) b 0) where
   pub pair-below : PathIn ws path → (x < path .top) × (y < path .top)
   pair-below w = (rw ex (w .held a ha .below), rw ey (w .held b hb .below))
 
@@ -72,7 +74,7 @@ module _ {ws : List ℕ} {path : Path} {a b x y : ℕ} (ha : a < 16) (hb : b < 1
   pair-room g = (first-room g .0, (first-room g .1, pair-below (g .path-in)))
 
 -- the room for the second of two
-pub second-room : {ws us : List ℕ} {path : Path} {a x : ℕ} {t : Term} → RoomFor ws path 1 → a < 16 → x ≡ getD (path .registers) a 0 → length us ≡ length ws → Put ws us (path .top) t
+pub second-room : {ws us : List ℕ} {path : Path} {a x : ℕ} {t : Term} → RoomFor ws path 1 → a < registerCount → x ≡ getD (path .registers) a 0 → length us ≡ length ws → Put ws us (path .top) t
     → Formed us (path .top + 1) × (Space us (path .top + 1) 1 × ((x < path .top + 1) × (path .top < path .top + 1)))
 second-room {path = path} {a} g h e long u =
     let inside : getD (path .registers) a 0 < path .top = g .path-in .held a h .below in
@@ -80,7 +82,7 @@ second-room {path = path} {a} g h e long u =
 
 -- a constant, and a register's sum with it
 module _ {ws us vs : List ℕ} {path : Path} (w : PathIn ws path) (long : length us ≡ length ws) (longer : length vs ≡ length us)
-    {a x i : ℕ} (ha : a < 16) (ex : x ≡ getD (path .registers) a 0)
+    {a x i : ℕ} (ha : a < registerCount) (ex : x ≡ getD (path .registers) a 0)
     (u : Put ws us (path .top) (constant i)) (v : Put us vs (path .top + 1) (sum (termAt us x) (termAt us (path .top)))) where
   pub sum-with-built : Built ws vs path 2 (path .top + 1) (sum (termOf (pathOf ws path) a) (constant i))
   sum-with-built =
@@ -99,12 +101,12 @@ module _ {ws us vs : List ℕ} {path : Path} (w : PathIn ws path) (long : length
       }
 
 -- what an assignment of a node that was built asks
-pub built-asks : {ws us : List ℕ} {path : Path} {d node : ℕ} {t : Term} (count : ℕ) → RoomFor ws path 1 → length us ≡ length ws → d < 16 → count ≤ 3 → Built ws us path count node t
-    → (d < 16) × (((path .steps < 256) × (path .counter < 256)) × ((node < 65536) × Formed us (suc node)))
+pub built-asks : {ws us : List ℕ} {path : Path} {d node : ℕ} {t : Term} (count : ℕ) → RoomFor ws path 1 → length us ≡ length ws → d < registerCount → count ≤ 3 → Built ws us path count node t
+    → (d < registerCount) × (((path .steps < mostInstructions) × (path .counter < mostInstructions)) × ((node < 65536) × Formed us (suc node)))
 built-asks {node = node} count g long below few b = (below, ((omega (arith, g .run), omega (arith, g .within)), (omega (arith, g .nodes, b .node-in .below), formed-less (suc node) (b .node-in .below) (b .path-in .prepared 0 .formed))))
 
 -- ---- assignments
-module _ {ws us : List ℕ} {path : Path} {d count node : ℕ} {t : Term} (p : Progress) (g : RoomFor ws path 1) (long : length us ≡ length ws) (below : d < 16) (few : count ≤ 3) (b : Built ws us path count node t) where
+module _ {ws us : List ℕ} {path : Path} {d count node : ℕ} {t : Term} (p : Progress) (g : RoomFor ws path 1) (long : length us ≡ length ws) (below : d < registerCount) (few : count ≤ 3) (b : Built ws us path count node t) where
   kept : Kept ws us path
   kept = kept-same path (g .path-in .prepared 0 .assumed .few) (b .same)
 
@@ -127,7 +129,7 @@ module _ {ws us : List ℕ} {path : Path} {d count node : ℕ} {t : Term} (p : P
     assumptions = omega arith;
   }
 
-  by-size : (small : Bool) → leb (size t) 255 ≡ small → Assigns ws us path d t p (assignedAs small (raisedTo path (path .top + count)) d node p)
+  by-size : (small : Bool) → leb (size t) mostTermNodes ≡ small → Assigns ws us path d t p (assignedAs small (raisedTo path (path .top + count)) d node p)
   unfolding assignedAs assign smallEnough
   by-size true e = record {
     moves = λ bytes credit h. record {
@@ -144,8 +146,8 @@ module _ {ws us : List ℕ} {path : Path} {d count node : ℕ} {t : Term} (p : P
     };
   }
 
-  pub built-assigns : {r : Moved} {raised : Path} → raised ≡ raisedTo path (path .top + count) → r ≡ assignedAs (leb (size (termAt us node)) 255) raised d node p → Assigns ws us path d t p r
-  built-assigns h e = subst (λ m. Assigns ws us path d t p m) (ap₂ (λ (x : Term) (q : Path). assignedAs (leb (size x) 255) q d node p) (sym (b .means)) (sym h) ∙ sym e) (by-size (leb (size t) 255) refl)
+  pub built-assigns : {r : Moved} {raised : Path} → raised ≡ raisedTo path (path .top + count) → r ≡ assignedAs (leb (size (termAt us node)) mostTermNodes) raised d node p → Assigns ws us path d t p r
+  built-assigns h e = subst (λ m. Assigns ws us path d t p m) (ap₂ (λ (x : Term) (q : Path). assignedAs (leb (size x) mostTermNodes) q d node p) (sym (b .means)) (sym h) ∙ sym e) (by-size (leb (size t) mostTermNodes) refl)
 
 -- the two ways out of an assignment
 module _ {b c : Bool} (path : Path) (d node : ℕ) (p : Progress) (e : b ≡ c) where

@@ -18,9 +18,11 @@ use Rattle.model.specs.declared.Comparison.{Comparison}
 use Rattle.model.specs.declared.Comparison.the-variants.{Equal, Unequal, Less, AtMost}
 use Rattle.model.specs.declared.Refusal.{Refusal}
 use Rattle.model.specs.declared.Refusal.the-variants.{Unannotated}
-use Rattle.terms.specs.Workspace.{tableBase, mostAssumptions, mostTableNodes, workspaceWords, Same}
+use Rattle.model.specs.Verdict.{leastWorkspace}
+use Rattle.model.specs.Package.{mostInstructions}
+use Rattle.workspace.specs.Layout.{tableBase, mostAssumptions, mostTableNodes, Same}
 use Rattle.terms.specs.Table.{place, termAt}
-use Rattle.terms.proofs.Frames.{same-refl}
+use Rattle.workspace.proofs.Frames.{same-refl}
 use Rattle.terms.proofs.Table.{term-same}
 use Rattle.assumptions.specs.Area.{slot, atomIn}
 use Rattle.assumptions.specs.declared.Assumption.{Assumption}
@@ -28,7 +30,7 @@ use Rattle.annotations.specs.Annotations.{annotationAtPlace}
 use Rattle.annotations.specs.Search.{positionFrom}
 use Rattle.annotations.specs.declared.search.Found.{Found}
 use Rattle.annotations.specs.declared.search.Found.the-variants.{At as Found-at, Nothing}
-use Rattle.derivation.specs.Regions.{regionsOf, RegionWords}
+use Rattle.claims.specs.Regions.{regionsOf, RegionWords}
 use Rattle.goals.specs.Judging.{Reached, ReachedAfter, Judges}
 use Rattle.goals.specs.Walking.{pathOf, NodeIn, PathIn, goalRoom, Going}
 use Rattle.goals.specs.Settling.{ArrivalJudged, ReturnJudged}
@@ -100,8 +102,8 @@ ended-refused path e = ap (λ (j : Judged). record { path = path; answer = ended
 -- ---- jumps
 -- what an arrival of a path asks
 pub there-asks : {ws bytes regions indexes places : List ℕ} {setting : Setting} {path there : Path} {p : Progress} {credit target : ℕ} → Tables bytes regions indexes places setting
-    → RoomFor ws path 1 → NodeIn ws path credit → Reached bytes p → target ≤ 256 → there ≡ steppedTo path target
-    → Tables bytes regions indexes places setting × (Going ws regions bytes (setting .policy .count) goalRoom there p × (NodeIn ws there credit × (there .counter ≤ 256)))
+    → RoomFor ws path 1 → NodeIn ws path credit → Reached bytes p → target ≤ mostInstructions → there ≡ steppedTo path target
+    → Tables bytes regions indexes places setting × (Going ws regions bytes (setting .policy .count) goalRoom there p × (NodeIn ws there credit × (there .counter ≤ mostInstructions)))
 there-asks {target = target} t g n h few e = rw e (
   t,
   (
@@ -182,7 +184,7 @@ opposite-below AtMost e h = rw e (h .1, h .0)
 
 -- what assuming a condition asks
 pub assume-asks : {ws : List ℕ} {path stepped : Path} {left right i : ℕ} → RoomFor ws path 1 → stepped ≡ steppedTo path i → (left < path .top) × (right < path .top)
-    → PathIn ws stepped × (((stepped .assumptions < mostAssumptions) × (stepped .top ≤ mostTableNodes) × (workspaceWords ≤ length ws)) × ((left < stepped .top) × (right < stepped .top)))
+    → PathIn ws stepped × (((stepped .assumptions < mostAssumptions) × (stepped .top ≤ mostTableNodes) × (leastWorkspace ≤ length ws)) × ((left < stepped .top) × (right < stepped .top)))
 assume-asks {i = i} g e h = rw e (path-stepped (g .path-in) i (omega (arith, g .run)), ((omega (arith, g .assumed), omega (arith, g .nodes), g .words), h))
 
 module _ {ws us : List ℕ} {path stepped there : Path} {a : Atom} {i : ℕ} (g : RoomFor ws path 1) (e : stepped ≡ steppedTo path i) (u : Assumed ws us stepped a there) where
@@ -200,8 +202,8 @@ module _ {ws us : List ℕ} {path stepped there : Path} {a : Atom} {i : ℕ} (g 
   edge-means = u .is ∙ ap (λ (q : Path). assuming (pathOf ws q) a) e
 
   -- what an arrival on it asks
-  pub edge-asks : {bytes regions indexes places : List ℕ} {setting : Setting} {p : Progress} {credit : ℕ} → Tables bytes regions indexes places setting → NodeIn ws path credit → Reached bytes p → i ≤ 256 → length us ≡ length ws
-      → Tables bytes regions indexes places setting × (Going us regions bytes (setting .policy .count) goalRoom there p × (NodeIn us there credit × (there .counter ≤ 256)))
+  pub edge-asks : {bytes regions indexes places : List ℕ} {setting : Setting} {p : Progress} {credit : ℕ} → Tables bytes regions indexes places setting → NodeIn ws path credit → Reached bytes p → i ≤ mostInstructions → length us ≡ length ws
+      → Tables bytes regions indexes places setting × (Going us regions bytes (setting .policy .count) goalRoom there p × (NodeIn us there credit × (there .counter ≤ mostInstructions)))
   edge-asks t n h few long = rw edge (
     t,
     (

@@ -9,13 +9,15 @@ use lib.ListN.{length, getD, set, length-set}
 use lib.Seq.{getD-set-same, getD-set-other}
 use Rattle.model.specs.Term.{Term, constant}
 use Rattle.model.specs.Goals.{assigning, termOf}
-use Rattle.terms.specs.Workspace.{tableBase, assumptionBase, mostAssumptions, Same}
+use Rattle.model.specs.Expression.{registerCount}
+use Rattle.model.specs.Package.{mostInstructions}
+use Rattle.workspace.specs.Layout.{tableBase, assumptionBase, mostAssumptions, Same, mostVariables}
 use Rattle.terms.specs.Table.{place, termAt, Formed}
-use Rattle.terms.proofs.Frames.{same-refl, same-trans, same-within}
+use Rattle.workspace.proofs.Frames.{same-refl, same-trans, same-within}
 use Rattle.terms.proofs.Table.{term-same, formed-same}
 use Rattle.assumptions.specs.Area.{slot, listed}
 use Rattle.assumptions.proofs.Laws.{held-same, listed-same, held-fewer}
-use Rattle.derivation.specs.Opening.{registerNodes}
+use Rattle.rule_reader.specs.Opening.{registerNodes}
 use Rattle.goals.specs.declared.Path.{Path}
 use Rattle.goals.specs.Walking.{pathOf, raisedTo, NodeIn, PathIn}
 use Rattle.moves.specs.Moves.{steppedTo, writtenTo, oneVariable, RoomFor, Kept}
@@ -35,8 +37,8 @@ map-set f [] d n = refl
 map-set f (x ∷ l) zero n = refl
 map-set f (x ∷ l) (suc d) n = ap (f x ∷_) (map-set f l d n)
 
-own-node : (v : ℕ) → v < 16 → getD registerNodes v 0 ≡ v
-own-node v h = at 16 0 v h ∙ (omega arith)
+own-node : (v : ℕ) → v < registerCount → getD registerNodes v 0 ≡ v
+own-node v h = at registerCount 0 v h ∙ (omega arith)
   where
     nodesFrom : (n k : ℕ) → List ℕ
     nodesFrom zero k = []
@@ -101,23 +103,23 @@ module _ {ws us : List ℕ} {p : Path} (k : Kept ws us p) where
 -- ---- changes of a path
 module _ {ws : List ℕ} {p : Path} (w : PathIn ws p) where
   -- the term of a register
-  pub register-term : (a : ℕ) → a < 16 → termAt ws (getD (p .registers) a 0) ≡ termOf (pathOf ws p) a
+  pub register-term : (a : ℕ) → a < registerCount → termAt ws (getD (p .registers) a 0) ≡ termOf (pathOf ws p) a
   register-term a h = sym (map-at (termAt ws) (p .registers) a (constant 0) (omega (arith, w .sixteen)))
 
-  pub path-stepped : (i : ℕ) → p .steps < 256 → PathIn ws (steppedTo p i)
+  pub path-stepped : (i : ℕ) → p .steps < mostInstructions → PathIn ws (steppedTo p i)
   path-stepped i h = record { prepared = w .prepared; sixteen = w .sixteen; held = λ v l. node-wider (omega arith) (omega arith) (w .held v l); run = omega arith }
 
-  pub path-written : {d node : ℕ} → d < 16 → NodeIn ws p node → PathIn ws (writtenTo p d node)
+  pub path-written : {d node : ℕ} → d < registerCount → NodeIn ws p node → PathIn ws (writtenTo p d node)
   path-written {d} {node} h n = record { prepared = w .prepared; sixteen = length-set (p .registers) d node ∙ w .sixteen; held = λ v l. node-wider (omega arith) (omega arith) (go v l (ℕ-discrete v d)); run = w .run }
     where
-      go : (v : ℕ) → v < 16 → Dec (v ≡ d) → NodeIn ws p (getD (set (p .registers) d node) v 0)
+      go : (v : ℕ) → v < registerCount → Dec (v ≡ d) → NodeIn ws p (getD (set (p .registers) d node) v 0)
       go v l (yes e) = rw (e, getD-set-same (p .registers) d node 0 (omega (arith, w .sixteen))) n
       go v l (no e) = rw (getD-set-other (p .registers) d v node 0 (omega arith)) (w .held v l)
 
   pub written-path : (d node : ℕ) → pathOf ws (writtenTo p d node) ≡ assigning (pathOf ws p) d (termAt ws node)
   written-path d node = λ i. record { counter = p .counter; steps = p .steps; registers = map-set (termAt ws) (p .registers) d node i; variables = p .variables; assumptions = listed ws (p .assumptions) }
 
-  pub path-variable : p .variables < 999 → PathIn ws (oneVariable p)
+  pub path-variable : p .variables < mostVariables → PathIn ws (oneVariable p)
   path-variable h = record {
     prepared = λ n. let q = w .prepared n in record { formed = q .formed; above = q .above; registers = q .registers; most = omega arith; assumed = q .assumed; cleared = q .cleared };
     sixteen = w .sixteen;

@@ -9,17 +9,18 @@ use native.Mathlib.Omega.{arith}
 use lib.ListN.{length, getD, take, drop}
 use lib.Seq.{drop-cons}
 use Rattle.model.specs.declared.Region.{Region}
-use Rattle.terms.specs.Workspace.{stored}
-use Rattle.terms.proofs.Frames.{stored-length, stored-before, stored-first, stored-second, stored-third}
+use Rattle.model.specs.Policy.{mostRegions}
+use Rattle.workspace.specs.Layout.{stored}
+use Rattle.workspace.proofs.Frames.{stored-length, stored-before, stored-first, stored-second, stored-third}
 use Rattle.policy.specs.declared.Policy.{Policy}
 use Rattle.policy.specs.Policy.{noRegion, Checked}
-use Rattle.derivation.specs.Regions.{regionIn, regionsFrom, regionsOf, RegionWords}
+use Rattle.claims.specs.Regions.{regionIn, regionsFrom, regionsOf, RegionWords, regionWords}
 use Rattle.goals.specs.Judging.{Reached}
 use Rattle.moves.specs.declared.Setting.{Setting}
 use Rattle.moves.specs.Setting.{Settled, Fixed, Written}
 
 -- ---- one region more
-module _ {regions : List Region} {words : List ℕ} {j : ℕ} (w : Written regions words j) (h : j < 8) where
+module _ {regions : List Region} {words : List ℕ} {j : ℕ} (w : Written regions words j) (h : j < mostRegions) where
   pub written-more : {region : Region} → region ≡ getD regions j noRegion → Written regions (stored words (3 * j) (region .base) (region .size) (region .rights)) (j + 1)
   written-more {region} e = record {
     long = stored-length words (3 * j) _ _ _ ∙ w .long;
@@ -59,7 +60,7 @@ pub start-reached : {bytes policyBytes indexes places : List ℕ} {setting : Set
 start-reached s = record { within = omega (arith, s .ends, s .fits .whole); counted = omega arith }
 
 -- no region is written, and all are
-pub none-written : {regions : List Region} {words : List ℕ} → length words ≡ 24 → Written regions words 0
+pub none-written : {regions : List Region} {words : List ℕ} → length words ≡ regionWords → Written regions words 0
 none-written e = record { long = e; at = λ j h. absurd (omega arith) }
 
 pub all-written : {regions : List Region} {words : List ℕ} {j : ℕ} (count : ℕ) → j ≤ count → count ≤ j → Written regions words j → Written regions words count

@@ -14,7 +14,7 @@ use Rattle.model.specs.Result.{value, _>>=_, check, stopAs}
 use Rattle.model.specs.Policy.{Policy}
 use Rattle.model.specs.Field.{missing, byteAt, halfAt}
 use Rattle.model.specs.Expression.{registerCount, expressionAt, atomsAt}
-use Rattle.model.specs.Package.{proofStart}
+use Rattle.model.specs.Package.{proofStart, mostAnnotations}
 use Rattle.model.specs.Annotation.{Annotation, annotationAt, annotationRefusal, annotationFrom}
 use Rattle.model.specs.Routine.{Routine}
 use Rattle.model.specs.declared.Header.{Header}
@@ -23,6 +23,7 @@ use Rattle.model.specs.declared.Instruction.the-variants.{Return}
 use Rattle.routine.specs.Code.{instructionAt}
 use Rattle.routine.proofs.Facts.{code-length, code-at}
 use Rattle.model.proofs.Results.{bound, past-check, past-stop}
+use Rattle.model.specs.Atom.{mostAtoms}
 use Rattle.annotations.specs.Annotations.{annotationAtPlace, annotationsAt, indexesOf, Placed, Tabled}
 use Rattle.annotations.specs.Search.{positionFrom}
 use Rattle.annotations.specs.declared.search.Found.{Found}
@@ -47,18 +48,18 @@ module _ (bytes : List ℕ) (h : Header) (p : ℕ) where
       let index = bound (stopAs (annotationRefusal bytes h) (halfAt bytes (proofStart h) p)) _ e in
       let below = bound (check _ (BadAnnotation p)) _ (index .2) in
       let count = bound (stopAs (annotationRefusal bytes h) (byteAt bytes (proofStart h) (p + 2))) _ (below .2) in
-      let few = bound (check (leb (count .0) 16) (BadAnnotation (p + 2))) _ (count .2) in
+      let few = bound (check (leb (count .0) mostAtoms) (BadAnnotation (p + 2))) _ (count .2) in
       let credit = bound (stopAs (annotationRefusal bytes h) (expressionAt bytes (proofStart h) registerCount (p + 3))) _ (few .2) in
       let atoms = bound (stopAs (annotationRefusal bytes h) (atomsAt bytes (proofStart h) registerCount (count .0) (credit .0 .1))) _ (credit .2) in
       let byte = byte-read bytes (proofStart h) (p + 2) (past-stop _ _ (count .1)) in
       let is : _≡_ {A = Annotation × ℕ} (record { index = index .0; credit = credit .0 .0; atoms = atoms .0 .0 }, atoms .0 .1) (a, next) = cc in
       let same : record { index = index .0; credit = credit .0 .0; atoms = atoms .0 .0 } ≡ a = ap (λ x. x .0) is in
-      let low : leb (count .0) 16 ≡ true = past-check _ _ (few .1) in
+      let low : leb (count .0) mostAtoms ≡ true = past-check _ _ (few .1) in
       let test = and-eq-true-iff (leb 0 (index .0)) (ltb (index .0) (h .instructions)) .0 (past-check _ _ (below .1)) in
       subst (AnnotationStands bytes h p) same (record {
         below = ltb-true (index .0) (h .instructions) (test .1);
         inside = omega (arith, byte .0);
-        few = omega (arith, byte .1, leb-true (count .0) 16 low);
+        few = omega (arith, byte .1, leb-true (count .0) mostAtoms low);
         after = credit .0 .1;
         next = atoms .0 .1;
         credit-read = past-stop _ _ (credit .1);
@@ -79,7 +80,7 @@ length-map f [] = refl
 length-map f (x ∷ l) = ap suc (length-map f l)
 
 -- ---- the tables
-module _ {bytes : List ℕ} {h : Header} {count : ℕ} {indexes places : List ℕ} (few : count ≤ 64) (t : Tabled bytes h count indexes places) where
+module _ {bytes : List ℕ} {h : Header} {count : ℕ} {indexes places : List ℕ} (few : count ≤ mostAnnotations) (t : Tabled bytes h count indexes places) where
   taken : length (take count places) ≡ count
   taken = length-take-le count places (omega (arith, t .places-long))
 

@@ -11,13 +11,13 @@ use Rattle.model.specs.Package.{mostInstructions}
 use Rattle.model.specs.Annotation.{Annotation, annotationAt}
 use Rattle.model.specs.Routine.{Routine}
 use Rattle.model.specs.Goals.{Path as ModelPath, Trace, append, Move, arrival, assign, landing, tracing, onward, loading, branch}
-use Rattle.model.specs.Verdict.{refusing, judge}
+use Rattle.model.specs.Verdict.{leastWorkspace, refusing, judge}
 use Rattle.model.specs.declared.Region.{Region}
 use Rattle.model.specs.declared.Comparison.{Comparison}
 use Rattle.model.specs.declared.Comparison.the-variants.{Equal, Unequal, Less, AtMost}
 use Rattle.model.specs.declared.Verdict.{Verdict}
 use Rattle.model.specs.declared.Refusal.the-variants.{LargeTerm}
-use Rattle.terms.specs.Workspace.{workspaceWords, mostAssumptions, tableBase, mostTableNodes, Same}
+use Rattle.workspace.specs.Layout.{mostAssumptions, tableBase, mostTableNodes, Same, mostVariables}
 use Rattle.terms.specs.Table.{termAt, place}
 use Rattle.assumptions.specs.Area.{slot, atomIn}
 use Rattle.assumptions.specs.declared.Assumption.{Assumption}
@@ -51,11 +51,11 @@ oneVariable p = record { counter = p .counter; steps = p .steps; variables = p .
 -- ---- room
 -- the path is in the words, with room for so many instructions
 pub record RoomFor (ws : List ℕ) (path : Path) (left : ℕ) : Type 0 where
-  pub words : workspaceWords ≤ length ws
+  pub words : leastWorkspace ≤ length ws
   pub path-in : PathIn ws path
   pub nodes : path .top + 3 * left + goalRoom ≤ mostTableNodes
   pub assumed : path .assumptions + left ≤ mostAssumptions
-  pub loaded : path .variables + left ≤ 999
+  pub loaded : path .variables + left ≤ mostVariables
   pub run : path .steps + left ≤ mostInstructions
   pub within : path .counter + left ≤ mostInstructions
 

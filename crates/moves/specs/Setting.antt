@@ -11,7 +11,7 @@ use Rattle.model.specs.declared.Region.{Region}
 use Rattle.routine.specs.Headers.{Fits}
 use Rattle.annotations.specs.Annotations.{annotationsAt, Tabled}
 use Rattle.policy.specs.Policy.{policyOf, noRegion, Checked}
-use Rattle.derivation.specs.Regions.{regionIn, regionsOf, RegionWords}
+use Rattle.claims.specs.Regions.{regionIn, regionsOf, RegionWords, regionWords}
 use Rattle.moves.specs.declared.Setting.{Setting}
 
 -- the policy and the header have passed their checks, and the tables hold the annotations
@@ -47,5 +47,5 @@ pub record TablesStand (bytes regions places : List ℕ) (setting : Setting) (po
 
 -- the first `count` regions stand in the words
 pub record Written (regions : List Region) (words : List ℕ) (count : ℕ) : Type 0 where
-  pub long : length words ≡ 24
+  pub long : length words ≡ regionWords
   pub at : (j : ℕ) → j < count → regionIn words j ≡ getD regions j noRegion

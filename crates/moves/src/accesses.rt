@@ -2,7 +2,7 @@
 use crate::Moved;
 use crate::MovedAnswer;
 use crate::paths;
-use derivation::Claim;
+use claims::Claim;
 use goals;
 use goals::Judged;
 use goals::Path;
@@ -10,14 +10,15 @@ use goals::Progress;
 ghost use mathlib.Core.List.{[], _∷_};
 ghost use Prim.Native.Nat.{_<_};
 ghost use Rattle.model.specs.Goals.{addressTerm, goalOf, readable, writable, goes, onward, loading};
-ghost use Rattle.derivation.specs.Regions.{regionsOf, RegionWords};
+ghost use Rattle.model.specs.Expression.{registerCount};
+ghost use Rattle.claims.specs.Regions.{regionsOf, RegionWords};
 ghost use Rattle.goals.specs.Judging.{Reached};
 ghost use Rattle.goals.specs.Walking.{pathOf};
 ghost use Rattle.moves.specs.Moves.{RoomFor, Accesses, Loads};
 
 // Register d is the next variable.
 fn loaded(ws: &mut [u32], path: Path, d: u8, progress: Progress) -> Moved
-    requires { ⌜ d < 16 ⌝ }
+    requires { ⌜ d < registerCount ⌝ }
     requires { ⌜ RoomFor (now ws) path 1 ⌝ }
     ensures { λ r. ⌜ Loads (now (ws .entry)) (now (ws .exit)) path d progress r ⌝ }
 {
@@ -43,7 +44,7 @@ pub fn load(
     i: u32,
     progress: Progress,
 ) -> Moved
-    requires { ⌜ (d < 16) × (a < 16) ⌝ }
+    requires { ⌜ (d < registerCount) × (a < registerCount) ⌝ }
     requires { ⌜ RegionWords (now regions) count ⌝ }
     requires { ⌜ RoomFor (now ws) path 1 ⌝ }
     requires { ⌜ Reached (now bytes) progress ⌝ }
@@ -81,7 +82,7 @@ pub fn store(
     i: u32,
     progress: Progress,
 ) -> Moved
-    requires { ⌜ a < 16 ⌝ }
+    requires { ⌜ a < registerCount ⌝ }
     requires { ⌜ RegionWords (now regions) count ⌝ }
     requires { ⌜ RoomFor (now ws) path 1 ⌝ }
     requires { ⌜ Reached (now bytes) progress ⌝ }

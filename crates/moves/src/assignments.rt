@@ -10,7 +10,9 @@ ghost use mathlib.Core.Path.{_≡_};
 ghost use Prim.Native.Nat.{suc, _<_};
 ghost use lib.Dec.{leb};
 ghost use Rattle.model.specs.Term.{constant, sum, size};
-ghost use Rattle.model.specs.Goals.{termOf};
+ghost use Rattle.model.specs.Goals.{termOf, mostTermNodes};
+ghost use Rattle.model.specs.Expression.{registerCount};
+ghost use Rattle.model.specs.Package.{mostInstructions};
 ghost use Rattle.terms.specs.Table.{termAt, Formed};
 ghost use Rattle.goals.specs.Walking.{pathOf};
 ghost use Rattle.moves.specs.Moves.{RoomFor, Built, combined, assignedAs, Assigns};
@@ -21,12 +23,12 @@ pub enum Operation {
     Subtract,
 }
 
-// Register d takes the term of a node, if that has at most 255 nodes, and the path goes on; else it is refused at its counter.
+// Register d takes the term of a node, if that is small enough, and the path goes on; else it is refused at its counter.
 fn assign(ws: &[u32], path: Path, d: u8, node: usize, progress: Progress) -> Moved
-    requires { ⌜ d < 16 ⌝ }
-    requires { ⌜ (path .steps < 256) × (path .counter < 256) ⌝ }
+    requires { ⌜ d < registerCount ⌝ }
+    requires { ⌜ (path .steps < mostInstructions) × (path .counter < mostInstructions) ⌝ }
     requires { ⌜ (node < 65536) × Formed (now ws) (suc node) ⌝ }
-    ensures { λ r. ⌜ r ≡ assignedAs (leb (size (termAt (now (ws .entry)) node)) 255) path d node progress ⌝ }
+    ensures { λ r. ⌜ r ≡ assignedAs (leb (size (termAt (now (ws .entry)) node)) mostTermNodes) path d node progress ⌝ }
 {
     if terms::small(ws, node) {
         return Moved {
@@ -42,7 +44,7 @@ fn assign(ws: &[u32], path: Path, d: u8, node: usize, progress: Progress) -> Mov
 
 // d := i
 pub fn set(ws: &mut [u32], path: Path, d: u8, i: u32, progress: Progress) -> Moved
-    requires { ⌜ d < 16 ⌝ }
+    requires { ⌜ d < registerCount ⌝ }
     requires { ⌜ RoomFor (now ws) path 1 ⌝ }
     ensures { λ r. ⌜ Assigns (now (ws .entry)) (now (ws .exit)) path d (constant i) progress r ⌝ }
 {
@@ -53,7 +55,7 @@ pub fn set(ws: &mut [u32], path: Path, d: u8, i: u32, progress: Progress) -> Mov
 
 // Puts the sum or the difference of the terms of registers a and b above the path's top.
 fn put_combined(ws: &mut [u32], path: Path, operation: Operation, a: u8, b: u8)
-    requires { ⌜ (a < 16) × (b < 16) ⌝ }
+    requires { ⌜ (a < registerCount) × (b < registerCount) ⌝ }
     requires { ⌜ RoomFor (now ws) path 1 ⌝ }
     ensures { λ _. ⌜ Built (now (ws .entry)) (now (ws .exit)) path 1 (path .top) (combined operation (termOf (pathOf (now (ws .entry)) path) a) (termOf (pathOf (now (ws .entry)) path) b)) ⌝ }
 {
@@ -76,7 +78,7 @@ pub fn combine(
     b: u8,
     progress: Progress,
 ) -> Moved
-    requires { ⌜ (d < 16) × (a < 16) × (b < 16) ⌝ }
+    requires { ⌜ (d < registerCount) × (a < registerCount) × (b < registerCount) ⌝ }
     requires { ⌜ RoomFor (now ws) path 1 ⌝ }
     ensures { λ r. ⌜ Assigns (now (ws .entry)) (now (ws .exit)) path d (combined operation (termOf (pathOf (now (ws .entry)) path) a) (termOf (pathOf (now (ws .entry)) path) b)) progress r ⌝ }
 {
@@ -87,7 +89,7 @@ pub fn combine(
 
 // d := a + i
 pub fn add_immediate(ws: &mut [u32], path: Path, d: u8, a: u8, i: u32, progress: Progress) -> Moved
-    requires { ⌜ (d < 16) × (a < 16) ⌝ }
+    requires { ⌜ (d < registerCount) × (a < registerCount) ⌝ }
     requires { ⌜ RoomFor (now ws) path 1 ⌝ }
     ensures { λ r. ⌜ Assigns (now (ws .entry)) (now (ws .exit)) path d (sum (termOf (pathOf (now (ws .entry)) path) a) (constant i)) progress r ⌝ }
 {

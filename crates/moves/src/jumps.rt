@@ -20,8 +20,9 @@ ghost use lib.ListN.{length};
 ghost use Rattle.model.specs.Result.{value};
 ghost use Rattle.model.specs.Expression.{registerCount, atomsAt};
 ghost use Rattle.model.specs.Goals.{jump, pathTo, ends, returning};
+ghost use Rattle.model.specs.Package.{mostInstructions};
 ghost use Rattle.terms.specs.Table.{termAt};
-ghost use Rattle.derivation.specs.Regions.{regionsOf, RegionWords};
+ghost use Rattle.claims.specs.Regions.{regionsOf, RegionWords};
 ghost use Rattle.goals.specs.Judging.{Reached};
 ghost use Rattle.goals.specs.Walking.{pathOf, NodeIn, Going, goalRoom};
 ghost use Rattle.moves.specs.Setting.{Tables, TablesStand};
@@ -42,7 +43,7 @@ pub fn arrive(
     requires { ⌜ Tables (now bytes) (now regions) (now indexes) (now places) setting ⌝ }
     requires { ⌜ Going (now ws) (now regions) (now bytes) (setting .policy .count) goalRoom path progress ⌝ }
     requires { ⌜ NodeIn (now ws) path credit ⌝ }
-    requires { ⌜ path .counter ≤ 256 ⌝ }
+    requires { ⌜ path .counter ≤ mostInstructions ⌝ }
     ensures { λ r. ⌜ Arrives (now (ws .entry)) (now (ws .exit)) (now (bytes .entry)) (TablesStand (now (bytes .entry)) (now (regions .entry)) (now (places .entry)) setting) (termAt (now (ws .entry)) credit) path progress r ⌝ }
 {
     let header = setting.header;
@@ -109,7 +110,7 @@ pub fn jump_to(
     requires { ⌜ RoomFor (now ws) path 1 ⌝ }
     requires { ⌜ NodeIn (now ws) path credit ⌝ }
     requires { ⌜ Reached (now bytes) progress ⌝ }
-    requires { ⌜ target ≤ 256 ⌝ }
+    requires { ⌜ target ≤ mostInstructions ⌝ }
     ensures { λ r. ⌜ Moves (now (ws .entry)) (now (ws .exit)) (now (bytes .entry)) (TablesStand (now (bytes .entry)) (now (regions .entry)) (now (places .entry)) setting) (termAt (now (ws .entry)) credit) (λ policy routine. jump policy routine (termAt (now (ws .entry)) credit) (pathOf (now (ws .entry)) path) (pathTo (pathOf (now (ws .entry)) path) target) ends) path progress r ⌝ }
 {
     let there = paths::stepped(path, fields::wide(target));
@@ -178,8 +179,8 @@ pub fn branch_to(
     requires { ⌜ RoomFor (now ws) path 1 ⌝ }
     requires { ⌜ NodeIn (now ws) path credit ⌝ }
     requires { ⌜ Reached (now bytes) progress ⌝ }
-    requires { ⌜ target ≤ 256 ⌝ }
-    requires { ⌜ (a < 16) × (b < 16) ⌝ }
+    requires { ⌜ target ≤ mostInstructions ⌝ }
+    requires { ⌜ (a < registerCount) × (b < registerCount) ⌝ }
     ensures { λ r. ⌜ Branches (now (ws .entry)) (now (ws .exit)) (now (bytes .entry)) (TablesStand (now (bytes .entry)) (now (regions .entry)) (now (places .entry)) setting) (termAt (now (ws .entry)) credit) path kind a b target progress r ⌝ }
 {
     let left = paths::node(path, a);

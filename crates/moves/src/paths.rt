@@ -5,12 +5,15 @@ ghost use Prim.Native.Nat.{_+_, _<_, _^_};
 ghost use lib.ListN.{getD};
 ghost use Rattle.model.specs.Term.{constant, sum};
 ghost use Rattle.model.specs.Goals.{termOf};
+ghost use Rattle.model.specs.Expression.{registerCount};
+ghost use Rattle.model.specs.Package.{mostInstructions};
+ghost use Rattle.workspace.specs.Layout.{mostVariables};
 ghost use Rattle.goals.specs.Walking.{pathOf};
 ghost use Rattle.moves.specs.Moves.{steppedTo, writtenTo, oneVariable, RoomFor, Built};
 
 // One instruction more run, on to an index.
 pub fn stepped(mut path: Path, index: usize) -> Path
-    requires { ⌜ path .steps < 256 ⌝ }
+    requires { ⌜ path .steps < mostInstructions ⌝ }
     ensures { λ r. ⌜ r ≡ steppedTo path index ⌝ }
 {
     path.counter = index;
@@ -20,7 +23,7 @@ pub fn stepped(mut path: Path, index: usize) -> Path
 
 // Register d is a node.
 pub fn written(mut path: Path, d: u8, node: usize) -> Path
-    requires { ⌜ (d < 16) × (node < 2 ^ 32) ⌝ }
+    requires { ⌜ (d < registerCount) × (node < 2 ^ 32) ⌝ }
     ensures { λ r. ⌜ r ≡ writtenTo path d node ⌝ }
 {
     path.registers[d as usize] = node as u32;
@@ -29,7 +32,7 @@ pub fn written(mut path: Path, d: u8, node: usize) -> Path
 
 // The node of a register.
 pub fn node(path: Path, register: u8) -> usize
-    requires { ⌜ register < 16 ⌝ }
+    requires { ⌜ register < registerCount ⌝ }
     ensures { λ r. ⌜ r ≡ getD (path .registers) register 0 ⌝ }
 {
     fields::wide(path.registers[register as usize])
@@ -37,7 +40,7 @@ pub fn node(path: Path, register: u8) -> usize
 
 // Puts a constant i and the sum of register a's term with it above the path's top.
 pub fn put_sum_with(ws: &mut [u32], path: Path, a: u8, i: u32)
-    requires { ⌜ a < 16 ⌝ }
+    requires { ⌜ a < registerCount ⌝ }
     requires { ⌜ RoomFor (now ws) path 1 ⌝ }
     ensures { λ _. ⌜ Built (now (ws .entry)) (now (ws .exit)) path 2 (path .top + 1) (sum (termOf (pathOf (now (ws .entry)) path) a) (constant i)) ⌝ }
 {
@@ -48,7 +51,7 @@ pub fn put_sum_with(ws: &mut [u32], path: Path, a: u8, i: u32)
 
 // One variable more.
 pub fn with_variable(mut path: Path) -> Path
-    requires { ⌜ path .variables < 999 ⌝ }
+    requires { ⌜ path .variables < mostVariables ⌝ }
     ensures { λ r. ⌜ r ≡ oneVariable path ⌝ }
 {
     path.variables += 1;

@@ -1,14 +1,16 @@
 // The policy's regions as words.
+use claims::REGION_WORDS;
 use policy::Policy;
 ghost use Prim.Native.Nat.{_≤_};
+ghost use Rattle.model.specs.Policy.{mostRegions};
 ghost use Rattle.moves.specs.Setting.{Written};
 
 // Base, size and rights of each region: those of region j stand at 3 * j.
-pub fn region_words(policy: Policy) -> [u32; 24]
-    requires { ⌜ policy .count ≤ 8 ⌝ }
+pub fn region_words(policy: Policy) -> [u32; REGION_WORDS]
+    requires { ⌜ policy .count ≤ mostRegions ⌝ }
     ensures { λ r. ⌜ Written (policy .regions) r (policy .count) ⌝ }
 {
-    let mut words = [0; 24];
+    let mut words = [0; REGION_WORDS];
     let mut j = 0;
     while j < policy.count {
         let region = policy.regions[j];

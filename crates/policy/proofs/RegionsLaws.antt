@@ -10,7 +10,7 @@ use lib.Dec.{leb}
 use lib.Seq.{take-suc-set, getD-take}
 use borrow.Author.Tests.{leb-true}
 use Rattle.model.specs.Result.{Result, stop, value, _>>=_, check}
-use Rattle.model.specs.Policy.{regionAt, regionFits, regionsFrom}
+use Rattle.model.specs.Policy.{mostRegions, regionAt, regionFits, regionsFrom}
 use Rattle.model.specs.declared.Region.{Region}
 use Rattle.model.specs.declared.Sizes.{Sizes}
 use Rattle.model.specs.declared.Refusal.{Refusal}
@@ -29,8 +29,8 @@ after front (value rest) = value (front ++ rest)
 -- After j regions: the whole reading is what is in the array so far, and the reading from here.
 pub record Going (bytes : List ℕ) (sizes : Sizes) (regions : List Region) (j : ℕ) : Type 0 where
   pub within : j ≤ sizes .regions
-  pub few : sizes .regions ≤ 8
-  pub long : length regions ≡ 8
+  pub few : sizes .regions ≤ mostRegions
+  pub long : length regions ≡ mostRegions
   pub rest : regionsFrom bytes sizes (sizes .regions) 0 ≡ after (take j regions) (regionsFrom bytes sizes (sizes .regions - j) j)
 
 none-before : (r : Result Refusal (List Region)) → r ≡ after [] r
@@ -38,7 +38,7 @@ unfolding after
 none-before (stop x) = refl
 none-before (value rest) = refl
 
-pub begin : (bytes : List ℕ) (sizes : Sizes) (regions : List Region) → sizes .regions ≤ 8 → length regions ≡ 8 → Going bytes sizes regions 0
+pub begin : (bytes : List ℕ) (sizes : Sizes) (regions : List Region) → sizes .regions ≤ mostRegions → length regions ≡ mostRegions → Going bytes sizes regions 0
 begin bytes sizes regions few long =
     let e : sizes .regions - 0 ≡ sizes .regions = omega arith in
     record { within = omega arith; few = few; long = long; rest = rw e (none-before (regionsFrom bytes sizes (sizes .regions) 0)) }

@@ -9,8 +9,9 @@ use lib.Dec.{leb, eqb, leb·zero, leb·suc-zero, eqb·suc-zero}
 use borrow.Author.Tests.{le-leb, lt-leb, leb-true}
 use Rattle.model.specs.Result.{Result, value, _>>=_, check, stopAs}
 use Rattle.model.specs.Word.{le32}
+use Rattle.model.specs.Atom.{mostAtoms}
 use Rattle.model.specs.Field.{byteAt, wordAt}
-use Rattle.model.specs.Policy.{policyField, policyRefusal, sizesOf}
+use Rattle.model.specs.Policy.{mostRegions, mostMemory, policyField, policyRefusal, sizesOf}
 use Rattle.model.specs.declared.Sizes.{Sizes}
 use Rattle.model.specs.declared.Refusal.{Refusal}
 use Rattle.model.specs.declared.Refusal.the-variants.{PolicyLength, PolicySize}
@@ -48,7 +49,7 @@ module _ (bytes : List ℕ) where
   unfolding fieldResult memoryField wordAt _>>=_ check stopAs policyRefusal
   no-word h = rw (lt-leb 8 (length bytes) h)
 
-  pub a-word : (r : FieldAnswer) → 8 ≤ length bytes → fieldResult r ≡ inRange 4 1 16384 (le32 bytes 4) → fieldResult r ≡ memoryField bytes
+  pub a-word : (r : FieldAnswer) → 8 ≤ length bytes → fieldResult r ≡ inRange 4 1 mostMemory (le32 bytes 4) → fieldResult r ≡ memoryField bytes
   unfolding memoryField wordAt _>>=_ check stopAs
   a-word r h e = rw (le-leb 8 (length bytes) h) e
 
@@ -60,9 +61,9 @@ at-most-zero (suc n) = leb·suc-zero n ∙ sym (eqb·suc-zero n)
 -- the definition with each field and its range as one
 unfoldable pub sizesBy : List ℕ → Result Refusal Sizes
 sizesBy bytes = do
-  regions ← sizeByte bytes 0 1 8
-  pre ← sizeByte bytes 1 0 16
-  post ← sizeByte bytes 2 0 16
+  regions ← sizeByte bytes 0 1 mostRegions
+  pre ← sizeByte bytes 1 0 mostAtoms
+  post ← sizeByte bytes 2 0 mostAtoms
   _ ← sizeByte bytes 3 0 0
   memory ← memoryField bytes
   limit ← policyField bytes (wordAt bytes (length bytes) 8)
@@ -99,27 +100,27 @@ in-range at least most n = gives-then (gives-check (leb least n && leb n most) (
 
 pub record Sized (s : Sizes) : Type 0 where
   pub some-regions : 1 ≤ s .regions
-  pub few-regions : s .regions ≤ 8
-  pub few-precondition : s .precondition ≤ 16
-  pub few-postcondition : s .postcondition ≤ 16
+  pub few-regions : s .regions ≤ mostRegions
+  pub few-precondition : s .precondition ≤ mostAtoms
+  pub few-postcondition : s .postcondition ≤ mostAtoms
   pub some-memory : 1 ≤ s .memory
-  pub small-memory : s .memory ≤ 16384
+  pub small-memory : s .memory ≤ mostMemory
 
 module _ (bytes : List ℕ) where
   byte-range : (at least most : ℕ) → Gives (λ m. (least ≤ m) × (m ≤ most)) (sizeByte bytes at least most)
   unfolding sizeByte
   byte-range at least most = gives-then (gives-any (policyField bytes (byteAt bytes (length bytes) at))) λ n _. in-range at least most n
 
-  memory-range : Gives (λ m. (1 ≤ m) × (m ≤ 16384)) (memoryField bytes)
+  memory-range : Gives (λ m. (1 ≤ m) × (m ≤ mostMemory)) (memoryField bytes)
   unfolding memoryField
-  memory-range = gives-then (gives-any (policyField bytes (wordAt bytes (length bytes) 4))) λ n _. in-range 4 1 16384 n
+  memory-range = gives-then (gives-any (policyField bytes (wordAt bytes (length bytes) 4))) λ n _. in-range 4 1 mostMemory n
 
   pub sized : Gives Sized (sizesOf bytes)
   unfolding sizesBy
   sized = rw (by-fields bytes)
-      (gives-then (byte-range 0 1 8) λ regions r.
-      gives-then (byte-range 1 0 16) λ pre p.
-      gives-then (byte-range 2 0 16) λ post q.
+      (gives-then (byte-range 0 1 mostRegions) λ regions r.
+      gives-then (byte-range 1 0 mostAtoms) λ pre p.
+      gives-then (byte-range 2 0 mostAtoms) λ post q.
       gives-then (byte-range 3 0 0) λ _ _.
       gives-then memory-range λ memory m.
       gives-then (gives-any (policyField bytes (wordAt bytes (length bytes) 8))) λ limit _.

@@ -4,6 +4,7 @@ use mathlib.Core.Path.{_≡_, sym}
 use mathlib.Core.List.{List}
 use lib.ListN.{length, take, getD}
 use Rattle.model.specs.Result.{Result, stop, value}
+use Rattle.model.specs.Atom.{mostAtoms}
 use Rattle.model.specs.Policy as model
 use Rattle.model.specs.declared.Region.{Region}
 use Rattle.model.specs.declared.Refusal.{Refusal}
@@ -36,11 +37,11 @@ module _ (bytes : List ℕ) where
   -- what holds of a policy that passed
   pub record Checked (p : Policy) : Type 0 where
     pub some-regions : 1 ≤ p .count
-    pub few-regions : p .count ≤ 8
+    pub few-regions : p .count ≤ model.mostRegions
     pub some-memory : 1 ≤ p .memory
-    pub small-memory : p .memory ≤ 16384
-    pub few-precondition : p .«precondition_atoms» ≤ 16
-    pub few-postcondition : p .«postcondition_atoms» ≤ 16
+    pub small-memory : p .memory ≤ model.mostMemory
+    pub few-precondition : p .«precondition_atoms» ≤ mostAtoms
+    pub few-postcondition : p .«postcondition_atoms» ≤ mostAtoms
     pub inside : p .precondition ≤ length bytes
     pub precondition-read : Stands bytes (p .«precondition_atoms») (p .precondition) (p .postcondition)
     pub postcondition-read : Stands bytes (p .«postcondition_atoms») (p .postcondition) (length bytes)

@@ -6,7 +6,7 @@ use lib.ListN.{length}
 use lib.Dec.{leb}
 use Rattle.model.specs.Result.{Result, stop, value, _>>=_, check}
 use Rattle.model.specs.Field.{byteAt, wordAt}
-use Rattle.model.specs.Policy.{policyField}
+use Rattle.model.specs.Policy.{mostMemory, policyField}
 use Rattle.model.specs.declared.Sizes.{Sizes}
 use Rattle.model.specs.declared.Refusal.{Refusal}
 use Rattle.model.specs.declared.Refusal.the-variants.{PolicySize}
@@ -41,4 +41,4 @@ module _ (bytes : List ℕ) (at least most : ℕ) where
 unfoldable pub memoryField : List ℕ → Result Refusal ℕ
 memoryField bytes = do
   n ← policyField bytes (wordAt bytes (length bytes) 4)
-  inRange 4 1 16384 n
+  inRange 4 1 mostMemory n

@@ -1,16 +1,25 @@
 // The policy: checks 3 to 6, in reading order.
 use expressions::Reading;
+use limits::MOST_ATOMS;
+use limits::MOST_MEMORY;
+use limits::MOST_REGIONS;
+use limits::REGISTERS;
 use model::Refusal;
 use model::Region;
 use model::Sizes;
 ghost use mathlib.Core.Path.{_≡_};
 ghost use Prim.Native.Nat.{_+_, _*_, _≤_, _<_};
 ghost use lib.ListN.{length};
-ghost use Rattle.model.specs.Policy.{sizesOf, regionAt, regionFits, regionsFrom};
+ghost use Rattle.model.specs.Policy.{mostRegions, sizesOf, regionAt, regionFits, regionsFrom};
 ghost use Rattle.policy.specs.Sizes.{fieldResult, sizesResult, inRange, sizeByte, memoryField};
 ghost use Rattle.policy.specs.Regions.{regionsResult};
 ghost use Rattle.policy.specs.Conditions.{ConditionReads, ConditionsRead};
 ghost use Rattle.policy.specs.Policy.{PolicyReads};
+
+// The largest counts among the sizes.
+const REGION_COUNT: u32 = MOST_REGIONS as u32;
+
+const ATOM_COUNT: u32 = MOST_ATOMS as u32;
 
 // The policy passed, or why it is refused.
 pub enum PolicyAnswer {
@@ -23,7 +32,7 @@ pub struct Policy {
     pub memory: u32,
     pub limit: u32,
     pub count: usize,
-    pub regions: [Region; 8],
+    pub regions: [Region; MOST_REGIONS],
     pub precondition: usize,
     pub precondition_atoms: usize,
     pub postcondition: usize,
@@ -51,7 +60,7 @@ enum SizesAnswer {
 // The answer on the regions, and the array that holds them.
 struct RegionsRead {
     pub answer: PolicyAnswer,
-    pub regions: [Region; 8],
+    pub regions: [Region; MOST_REGIONS],
 }
 
 // A position among the atoms, or why the policy is refused.
@@ -87,22 +96,22 @@ fn memory_field(bytes: &[u8]) -> FieldAnswer
     if bytes.len() < 8 {
         return FieldAnswer::Refused(Refusal::PolicyLength(bytes.len()));
     }
-    in_range(fields::word(bytes, 4), 4, 1, 16384)
+    in_range(fields::word(bytes, 4), 4, 1, MOST_MEMORY)
 }
 
 // The sizes, field by field in reading order.
 fn read_sizes(bytes: &[u8]) -> SizesAnswer
     ensures { λ r. ⌜ sizesResult r ≡ sizesOf (now (bytes .entry)) ⌝ }
 {
-    let regions = match size_byte(bytes, 0, 1, 8) {
+    let regions = match size_byte(bytes, 0, 1, REGION_COUNT) {
         FieldAnswer::Passed(number) => number,
         FieldAnswer::Refused(refusal) => return SizesAnswer::Refused(refusal),
     };
-    let precondition = match size_byte(bytes, 1, 0, 16) {
+    let precondition = match size_byte(bytes, 1, 0, ATOM_COUNT) {
         FieldAnswer::Passed(number) => number,
         FieldAnswer::Refused(refusal) => return SizesAnswer::Refused(refusal),
     };
-    let postcondition = match size_byte(bytes, 2, 0, 16) {
+    let postcondition = match size_byte(bytes, 2, 0, ATOM_COUNT) {
         FieldAnswer::Passed(number) => number,
         FieldAnswer::Refused(refusal) => return SizesAnswer::Refused(refusal),
     };
@@ -127,7 +136,7 @@ fn read_sizes(bytes: &[u8]) -> SizesAnswer
 
 // Region j of so many.
 fn region(bytes: &[u8], count: usize, j: usize) -> Region
-    requires { ⌜ (count ≤ 8) × ((j < count) × (12 + 8 * count ≤ length (now bytes))) ⌝ }
+    requires { ⌜ (count ≤ mostRegions) × ((j < count) × (12 + 8 * count ≤ length (now bytes))) ⌝ }
     ensures { λ r. ⌜ r ≡ regionAt (now (bytes .entry)) count j ⌝ }
 {
     let base = fields::word(bytes, 12 + 4 * j);
@@ -149,14 +158,14 @@ fn fits(region: Region, memory: u32) -> bool
 
 // The regions, one by one.
 fn read_regions(bytes: &[u8], sizes: Sizes) -> RegionsRead
-    requires { ⌜ (sizes .regions ≤ 8) × (12 + 8 * sizes .regions ≤ length (now bytes)) ⌝ }
+    requires { ⌜ (sizes .regions ≤ mostRegions) × (12 + 8 * sizes .regions ≤ length (now bytes)) ⌝ }
     ensures { λ r. ⌜ regionsResult (sizes .regions) r ≡ regionsFrom (now (bytes .entry)) sizes (sizes .regions) 0 ⌝ }
 {
     let mut regions = [Region {
         base: 0,
         size: 0,
         rights: 0,
-    }; 8];
+    }; MOST_REGIONS];
     let mut j = 0;
     while j < sizes.regions {
         let next = region(bytes, sizes.regions, j);
@@ -180,7 +189,7 @@ fn read_condition(bytes: &[u8], count: usize, at: usize) -> ConditionAnswer
     requires { ⌜ at ≤ length (now bytes) ⌝ }
     ensures { λ r. ⌜ ConditionReads (now (bytes .entry)) count at r ⌝ }
 {
-    match expressions::atoms(bytes, bytes.len(), 16, count, at) {
+    match expressions::atoms(bytes, bytes.len(), REGISTERS, count, at) {
         Reading::Next(next) => ConditionAnswer::Passed(next),
         Reading::Missing => ConditionAnswer::Refused(Refusal::PolicyLength(bytes.len())),
         Reading::Fault(place) => ConditionAnswer::Refused(Refusal::PolicyExpression(place)),
@@ -220,7 +229,7 @@ fn refused(refusal: Refusal) -> PolicyRead
                 base: 0,
                 size: 0,
                 rights: 0,
-            }; 8],
+            }; MOST_REGIONS],
             precondition: 0,
             precondition_atoms: 0,
             postcondition: 0,

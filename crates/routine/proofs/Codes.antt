@@ -14,7 +14,7 @@ use lib.Dec.{ltb}
 use Rattle.model.specs.Result.{Result, stop, value, _>>=_, check, stopAs}
 use Rattle.model.specs.Word.{le32}
 use Rattle.model.specs.Instruction.{decode, targetOf, targetInside}
-use Rattle.model.specs.Package.{immediateStart, instructionsFrom, readCode}
+use Rattle.model.specs.Package.{mostInstructions, immediateStart, instructionsFrom, readCode}
 use Rattle.model.specs.declared.Header.{Header}
 use Rattle.model.specs.declared.Instruction.{Instruction}
 use Rattle.model.specs.declared.Instruction.the-variants.{Set, Add, AddImmediate, Subtract, Load, Store, Jump, JumpLess, JumpEqual, Return}
@@ -149,7 +149,7 @@ module _ (bytes : List ℕ) (h : Header) where
   -- ---- the code kept in lines: the first instructions stand there
   pub record Reading (code : List Line) (index : ℕ) : Type 0 where
     pub within : index ≤ h .instructions
-    pub long : length code ≡ 256
+    pub long : length code ≡ mostInstructions
     pub rest : readCode bytes h ≡ (instructionsFrom bytes h (h .instructions - index) index >>= λ rest. value (instructionsOf (take index code) ++ rest))
     pub formed : AllFormed (h .instructions) code
 
@@ -158,7 +158,7 @@ module _ (bytes : List ℕ) (h : Header) where
   value-again (stop e) = refl
   value-again (value a) = refl
 
-  pub read-start : (size : ℕ) → size ≡ 256 → Reading (replicate size (record { instruction = Return })) 0
+  pub read-start : (size : ℕ) → size ≡ mostInstructions → Reading (replicate size (record { instruction = Return })) 0
   read-start size e = record {
     within = omega arith;
     long = length-replicate size _ ∙ e;
@@ -172,7 +172,7 @@ module _ (bytes : List ℕ) (h : Header) where
   joined (stop e) before x = refl
   joined (value rest) before x = ap value (sym (append-assoc before (x ∷ []) rest))
 
-  module _ (code : List Line) (index : ℕ) (g : Reading code index) (r : InstructionAnswer) (e : InstructionRead bytes h index r) (l : index < h .instructions) (few : h .instructions ≤ 256) where
+  module _ (code : List Line) (index : ℕ) (g : Reading code index) (r : InstructionAnswer) (e : InstructionRead bytes h index r) (l : index < h .instructions) (few : h .instructions ≤ mostInstructions) where
     pub read-more : (x : Instruction) → r ≡ Passed x → Reading (set code index (record { instruction = x })) (index + 1)
     unfolding instructionResult FormedIfPassed
     read-more x p =

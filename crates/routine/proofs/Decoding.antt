@@ -11,6 +11,7 @@ use borrow.Author.Tests.{ltb-true}
 use lib.Dec.{ltb, eqb}
 use lib.ListN.{length, getElem?}
 use Rattle.model.specs.Result.{Fit, misfit, stop, value, _>>=_, check, found}
+use Rattle.model.specs.Expression.{registerCount}
 use Rattle.model.specs.Instruction.{provided, operations, decode, targetOf, targetInside}
 use Rattle.model.specs.declared.Instruction.{Instruction}
 use Rattle.model.specs.declared.Instruction.the-variants.{Set, Add, AddImmediate, Subtract, Load, Store, Jump, JumpLess, JumpEqual, Return}
@@ -91,14 +92,14 @@ four p q r s e =
 
 module _ (n d a b i : ℕ) (w : i < 2 ^ 32) where
   -- what the tests of the rows give
-  three-registers : (q : Bool) → (ltb d 16 && ltb a 16 && ltb b 16 && q) ≡ true → (d < 16) × (a < 16) × (b < 16)
-  three-registers q t = let r = four _ _ _ _ t in (ltb-true d 16 (r .0), ltb-true a 16 (r .1), ltb-true b 16 (r .2))
+  three-registers : (q : Bool) → (ltb d registerCount && ltb a registerCount && ltb b registerCount && q) ≡ true → (d < registerCount) × (a < registerCount) × (b < registerCount)
+  three-registers q t = let r = four _ _ _ _ t in (ltb-true d registerCount (r .0), ltb-true a registerCount (r .1), ltb-true b registerCount (r .2))
 
-  two-registers : (q : Bool) → (ltb d 16 && ltb a 16 && q) ≡ true → (d < 16) × (a < 16) × (i < 2 ^ 32)
-  two-registers q t = let r = three _ _ _ t in (ltb-true d 16 (r .0), ltb-true a 16 (r .1), w)
+  two-registers : (q : Bool) → (ltb d registerCount && ltb a registerCount && q) ≡ true → (d < registerCount) × (a < registerCount) × (i < 2 ^ 32)
+  two-registers q t = let r = three _ _ _ t in (ltb-true d registerCount (r .0), ltb-true a registerCount (r .1), w)
 
-  branch : (eqb d 0 && ltb a 16 && ltb b 16) ≡ true → ltb i n ≡ true → (a < 16) × (b < 16) × (i < n)
-  branch t z = let r = three (eqb d 0) (ltb a 16) (ltb b 16) t in (ltb-true a 16 (r .1), ltb-true b 16 (r .2), ltb-true i n z)
+  branch : (eqb d 0 && ltb a registerCount && ltb b registerCount) ≡ true → ltb i n ≡ true → (a < registerCount) × (b < registerCount) × (i < n)
+  branch t z = let r = three (eqb d 0) (ltb a registerCount) (ltb b registerCount) t in (ltb-true a registerCount (r .1), ltb-true b registerCount (r .2), ltb-true i n z)
 
   abbrev FormedBy : (ℕ → ℕ → ℕ → ℕ → Fit Instruction) → Type 0
   FormedBy f = (x : Instruction) → f d a b i ≡ value x → targetInside n x ≡ true → Formed n x
@@ -118,7 +119,7 @@ module _ (n d a b i : ℕ) (w : i < 2 ^ 32) where
   each-formed : EachFormed operations
   unfolding targetInside targetOf Formed
   each-formed =
-      row _ (Set d i) (λ t z. (ltb-true d 16 (three _ _ _ t .0), w))
+      row _ (Set d i) (λ t z. (ltb-true d registerCount (three _ _ _ t .0), w))
       then row _ (Add d a b) (λ t z. three-registers _ t)
       then row _ (AddImmediate d a i) (λ t z. two-registers _ t)
       then row _ (Subtract d a b) (λ t z. three-registers _ t)

@@ -12,7 +12,7 @@ use borrow.Author.Tests.{le-leb, lt-leb, eq-eqb, ne-eqb, leb-true, not-true, not
 use Rattle.model.specs.Result.{stop, value, check, _>>=_}
 use Rattle.model.specs.Word.{le16, le32}
 use Rattle.model.specs.Refusal.{numberOf, placeOf}
-use Rattle.model.specs.Package.{proofStart, readHeader, proofSection, finderAnswer}
+use Rattle.model.specs.Package.{mostInstructions, mostAnnotations, mostBytes, proofStart, readHeader, proofSection, finderAnswer}
 use Rattle.model.specs.declared.Header.{Header}
 use Rattle.model.specs.declared.Refusal.{Refusal}
 use Rattle.model.specs.declared.Refusal.the-variants.{BadHeader}
@@ -31,33 +31,33 @@ module _ (bytes : List ℕ) where
   short h = refused _ (rw (lt-leb 12 (length bytes) h, readHeader))
 
   module _ (l : 12 ≤ length bytes) (n : ℕ) (en : n ≡ le16 bytes 0) where
-    pub miscounted : not (leb 1 n && leb n 256) ≡ true → HeaderRead bytes (Refused (BadHeader 0))
+    pub miscounted : not (leb 1 n && leb n mostInstructions) ≡ true → HeaderRead bytes (Refused (BadHeader 0))
     unfolding readHeader _>>=_ check
-    miscounted c = refused _ (rw (le-leb 12 (length bytes) l, ← en, not-true (leb 1 n && leb n 256) c, readHeader))
+    miscounted c = refused _ (rw (le-leb 12 (length bytes) l, ← en, not-true (leb 1 n && leb n mostInstructions) c, readHeader))
 
-    module _ (c : not (leb 1 n && leb n 256) ≡ false) (m : ℕ) (em : m ≡ le16 bytes 2) where
-      pub overnoted : 64 < m → HeaderRead bytes (Refused (BadHeader 2))
+    module _ (c : not (leb 1 n && leb n mostInstructions) ≡ false) (m : ℕ) (em : m ≡ le16 bytes 2) where
+      pub overnoted : mostAnnotations < m → HeaderRead bytes (Refused (BadHeader 2))
       unfolding readHeader _>>=_ check
-      overnoted k = refused _ (rw (le-leb 12 (length bytes) l, ← en, not-false (leb 1 n && leb n 256) c, ← em, lt-leb m 64 k, readHeader))
+      overnoted k = refused _ (rw (le-leb 12 (length bytes) l, ← en, not-false (leb 1 n && leb n mostInstructions) c, ← em, lt-leb m mostAnnotations k, readHeader))
 
-      module _ (k : m ≤ 64) (s t : ℕ) (es : s ≡ le32 bytes 4) (et : t ≡ le32 bytes 8) where
-        wrong : (eqb (length bytes) (12 + 8 * n + s + t) && leb (length bytes) 65536) ≡ false → HeaderRead bytes (Refused (BadHeader (min (length bytes) 65536)))
+      module _ (k : m ≤ mostAnnotations) (s t : ℕ) (es : s ≡ le32 bytes 4) (et : t ≡ le32 bytes 8) where
+        wrong : (eqb (length bytes) (12 + 8 * n + s + t) && leb (length bytes) mostBytes) ≡ false → HeaderRead bytes (Refused (BadHeader (min (length bytes) mostBytes)))
         unfolding readHeader _>>=_ check
-        wrong x = refused _ (rw (le-leb 12 (length bytes) l, ← en, not-false (leb 1 n && leb n 256) c, ← em, le-leb m 64 k, ← es, ← et, x, readHeader))
+        wrong x = refused _ (rw (le-leb 12 (length bytes) l, ← en, not-false (leb 1 n && leb n mostInstructions) c, ← em, le-leb m mostAnnotations k, ← es, ← et, x, readHeader))
 
-        pub long : 65536 < length bytes → HeaderRead bytes (Refused (BadHeader 65536))
-        long h = rw (min-eq-right {n = 65536} {m = length bytes} (omega arith)) at (wrong (rw (lt-leb (length bytes) 65536 h, and-false)))
+        pub long : mostBytes < length bytes → HeaderRead bytes (Refused (BadHeader mostBytes))
+        long h = rw (min-eq-right {n = mostBytes} {m = length bytes} (omega arith)) at (wrong (rw (lt-leb (length bytes) mostBytes h, and-false)))
 
-        pub uneven : length bytes ≤ 65536 → (length bytes ≡ 12 + 8 * n + s + t → ⊥) → HeaderRead bytes (Refused (BadHeader (length bytes)))
+        pub uneven : length bytes ≤ mostBytes → (length bytes ≡ 12 + 8 * n + s + t → ⊥) → HeaderRead bytes (Refused (BadHeader (length bytes)))
         uneven h u = rw (min-eq-left h) at (wrong (rw (ne-eqb (length bytes) (12 + 8 * n + s + t) u)))
 
-        pub good : length bytes ≤ 65536 → length bytes ≡ 12 + 8 * n + s + t → HeaderRead bytes (Passed (record { instructions = n; annotations = m; section = s; proof = t }))
+        pub good : length bytes ≤ mostBytes → length bytes ≡ 12 + 8 * n + s + t → HeaderRead bytes (Passed (record { instructions = n; annotations = m; section = s; proof = t }))
         unfolding readHeader _>>=_ check headerResult FitsIfPassed
         good h e =
-            let b : (leb 1 n && leb n 256) ≡ true = not-false (leb 1 n && leb n 256) c in
+            let b : (leb 1 n && leb n mostInstructions) ≡ true = not-false (leb 1 n && leb n mostInstructions) c in
             record {
-              is = rw (le-leb 12 (length bytes) l, ← en, b, ← em, le-leb m 64 k, ← es, ← et, eq-eqb (length bytes) (12 + 8 * n + s + t) e, le-leb (length bytes) 65536 h, readHeader);
-              fits = record { some = leb-true 1 n (and-eq-true-iff (leb 1 n) (leb n 256) .0 b .0); few = leb-true n 256 (and-eq-true-iff (leb 1 n) (leb n 256) .0 b .1); noted = k; whole = sym e; small = h };
+              is = rw (le-leb 12 (length bytes) l, ← en, b, ← em, le-leb m mostAnnotations k, ← es, ← et, eq-eqb (length bytes) (12 + 8 * n + s + t) e, le-leb (length bytes) mostBytes h, readHeader);
+              fits = record { some = leb-true 1 n (and-eq-true-iff (leb 1 n) (leb n mostInstructions) .0 b .0); few = leb-true n mostInstructions (and-eq-true-iff (leb 1 n) (leb n mostInstructions) .0 b .1); noted = k; whole = sym e; small = h };
             }
 
 -- what a reader's answer says, at each of its cases

@@ -8,7 +8,8 @@ use mathlib.Core.List.{map}
 use Rattle.model.specs.Result.{Result, Fit, stop, value, check, stopAs, _>>=_}
 use Rattle.model.specs.Word.{le32}
 use Rattle.model.specs.Instruction.{decode, targetInside}
-use Rattle.model.specs.Package.{immediateStart, readCode}
+use Rattle.model.specs.Expression.{registerCount}
+use Rattle.model.specs.Package.{mostInstructions, immediateStart, readCode}
 use Rattle.model.specs.declared.Header.{Header}
 use Rattle.model.specs.declared.Instruction.{Instruction}
 use Rattle.model.specs.declared.Instruction.the-variants.{Set, Add, AddImmediate, Subtract, Load, Store, Jump, JumpLess, JumpEqual, Return}
@@ -49,17 +50,17 @@ instructionAt bytes h index = do
   _ ← check (targetInside (h .instructions) instruction) (BadTarget index)
   value instruction
 
--- the registers are below 16, the immediate is a word, and a jump's target is below n
+-- the registers are among the sixteen, the immediate is a word, and a jump's target is below n
 unfoldable pub Formed : (n : ℕ) → Instruction → Type 0
-Formed n (Set d i) = (d < 16) × (i < 2 ^ 32)
-Formed n (Add d a b) = (d < 16) × (a < 16) × (b < 16)
-Formed n (AddImmediate d a i) = (d < 16) × (a < 16) × (i < 2 ^ 32)
-Formed n (Subtract d a b) = (d < 16) × (a < 16) × (b < 16)
-Formed n (Load d a i) = (d < 16) × (a < 16) × (i < 2 ^ 32)
-Formed n (Store d a i) = (d < 16) × (a < 16) × (i < 2 ^ 32)
+Formed n (Set d i) = (d < registerCount) × (i < 2 ^ 32)
+Formed n (Add d a b) = (d < registerCount) × (a < registerCount) × (b < registerCount)
+Formed n (AddImmediate d a i) = (d < registerCount) × (a < registerCount) × (i < 2 ^ 32)
+Formed n (Subtract d a b) = (d < registerCount) × (a < registerCount) × (b < registerCount)
+Formed n (Load d a i) = (d < registerCount) × (a < registerCount) × (i < 2 ^ 32)
+Formed n (Store d a i) = (d < registerCount) × (a < registerCount) × (i < 2 ^ 32)
 Formed n (Jump i) = i < n
-Formed n (JumpLess a b i) = (a < 16) × (b < 16) × (i < n)
-Formed n (JumpEqual a b i) = (a < 16) × (b < 16) × (i < n)
+Formed n (JumpLess a b i) = (a < registerCount) × (b < registerCount) × (i < n)
+Formed n (JumpEqual a b i) = (a < registerCount) × (b < registerCount) × (i < n)
 Formed n Return = Unit
 
 -- an instruction that passes is formed
@@ -94,5 +95,5 @@ pub record AllFormed (n : ℕ) (code : List Line) : Type 0 where
 
 pub record CodeMet (bytes : List ℕ) (h : Header) (r : CodeRead) : Type 0 where
   pub is : codeResult h r ≡ readCode bytes h
-  pub long : length (r .code) ≡ 256
+  pub long : length (r .code) ≡ mostInstructions
   pub formed : AllFormed (h .instructions) (r .code)

@@ -1,4 +1,5 @@
 // The instructions of a package: checks 8 and 9.
+use limits::MOST_INSTRUCTIONS;
 use model::Header;
 use model::Instruction;
 use model::Refusal;
@@ -8,6 +9,9 @@ ghost use Rattle.model.specs.Instruction.{decode, targetOf, targetInside};
 ghost use Rattle.model.specs.Package.{readCode};
 ghost use Rattle.routine.specs.Headers.{Fits};
 ghost use Rattle.routine.specs.Code.{decodedOf, targetOption, InstructionRead, codeChecked, CodeMet};
+
+// The number of a register is below this.
+const REGISTERS: u8 = limits::REGISTERS as u8;
 
 // What five numbers stand for: an instruction, or none.
 pub enum Decoded {
@@ -21,13 +25,13 @@ pub fn decode(op: u8, d: u8, a: u8, b: u8, i: u32) -> Decoded
 {
     match op {
         0 => {
-            if (d < 16) & (a == 0) & (b == 0) {
+            if (d < REGISTERS) & (a == 0) & (b == 0) {
                 return Decoded::Good(Instruction::Set { d, i });
             }
             Decoded::Bad
         }
         1 | 3 => {
-            if (d < 16) & (a < 16) & (b < 16) & (i == 0) {
+            if (d < REGISTERS) & (a < REGISTERS) & (b < REGISTERS) & (i == 0) {
                 if op == 1 {
                     return Decoded::Good(Instruction::Add { d, a, b });
                 }
@@ -36,13 +40,13 @@ pub fn decode(op: u8, d: u8, a: u8, b: u8, i: u32) -> Decoded
             Decoded::Bad
         }
         2 => {
-            if (d < 16) & (a < 16) & (b == 0) {
+            if (d < REGISTERS) & (a < REGISTERS) & (b == 0) {
                 return Decoded::Good(Instruction::AddImmediate { d, a, i });
             }
             Decoded::Bad
         }
         4..=5 => {
-            if (d < 16) & (a < 16) & (b == 0) {
+            if (d < REGISTERS) & (a < REGISTERS) & (b == 0) {
                 if op == 4 {
                     return Decoded::Good(Instruction::Load { d, a, i });
                 }
@@ -57,7 +61,7 @@ pub fn decode(op: u8, d: u8, a: u8, b: u8, i: u32) -> Decoded
             Decoded::Bad
         }
         7..=8 => {
-            if (d == 0) & (a < 16) & (b < 16) {
+            if (d == 0) & (a < REGISTERS) & (b < REGISTERS) {
                 if op == 7 {
                     return Decoded::Good(Instruction::JumpLess { a, b, i });
                 }
@@ -156,7 +160,7 @@ pub struct Line {
 // What reading the code gives: the instructions stand in the first lines where it passes.
 pub struct CodeRead {
     pub answer: CodeAnswer,
-    pub code: [Line; 256],
+    pub code: [Line; MOST_INSTRUCTIONS],
 }
 
 // The instructions of a package, or what check 8 or 9 refuses.
@@ -166,7 +170,7 @@ pub fn read_code(bytes: &[u8], header: Header) -> CodeRead
 {
     let mut code = [Line {
         instruction: Instruction::Return,
-    }; 256];
+    }; MOST_INSTRUCTIONS];
     let mut index = 0;
     while index < header.instructions {
         let answer = instruction(bytes, header, index);

@@ -7,7 +7,8 @@ use lib.ListN.{length, take}
 use lib.Dec.{eqb}
 use borrow.Author.Tests.{eqb-true}
 use Rattle.model.specs.Result.{Result, stop, value, _>>=_, check}
-use Rattle.model.specs.Policy.{Policy, readPolicy}
+use Rattle.model.specs.Policy.{Policy, mostRegions, readPolicy}
+use Rattle.model.specs.Expression.{registerCount}
 use Rattle.model.specs.Runner.{readStart, runOf}
 use Rattle.model.specs.Package.{codeOf}
 use Rattle.model.specs.Machine.{startOf}
@@ -33,7 +34,7 @@ use Rattle.runner.specs.Checks.{refusalOutcome, runOrRefuse, PackageRun,
 
 -- ---- the package
 
-pub runnable : (bytes registers : List ℕ) (count : ℕ) (header : Header) (read : CodeRead) → (count ≤ 8) × (length registers ≡ 16) → Fits bytes header → CodeMet bytes header read
+pub runnable : (bytes registers : List ℕ) (count : ℕ) (header : Header) (read : CodeRead) → (count ≤ mostRegions) × (length registers ≡ registerCount) → Fits bytes header → CodeMet bytes header read
     → Runnable (read .code) (header .instructions) count registers
 runnable bytes registers count header read asked fits m = record { short = fits .few; few = asked .0; sixteen = asked .1; formed = m .formed }
 
@@ -65,9 +66,9 @@ module _ (regions : List Region) (bytes registers memory : List ℕ) (budget : �
 -- ---- the policy and the lent words
 
 -- what the package's run asks: few regions and sixteen registers
-pub asked : {policyBytes : List ℕ} {read : PolicyRead} → PolicyReads policyBytes read → read .answer ≡ policies.Passed → (registers : ℕ) (rest : Bool) → (eqb registers 16 && rest) ≡ true
-    → (read .policy .count ≤ 8) × (registers ≡ 16)
-asked m t registers rest f = (m .passed t .few-regions, eqb-true registers 16 (and-eq-true-iff (eqb registers 16) rest .0 f .0))
+pub asked : {policyBytes : List ℕ} {read : PolicyRead} → PolicyReads policyBytes read → read .answer ≡ policies.Passed → (registers : ℕ) (rest : Bool) → (eqb registers registerCount && rest) ≡ true
+    → (read .policy .count ≤ mostRegions) × (registers ≡ registerCount)
+asked m t registers rest f = (m .passed t .few-regions, eqb-true registers registerCount (and-eq-true-iff (eqb registers registerCount) rest .0 f .0))
 
 module _ (policyBytes bytes registers memory : List ℕ) (budget : ℕ) where
   abbrev Promised : Outcome → (registers memory : List ℕ) → Type 0
@@ -87,7 +88,7 @@ module _ (policyBytes bytes registers memory : List ℕ) (budget : ℕ) where
 
   module _ (policy : Policy) (p : readPolicy policyBytes ≡ value policy) where
     abbrev fitting : Bool
-    fitting = eqb (length registers) 16 && eqb (length memory) (policy .memory)
+    fitting = eqb (length registers) registerCount && eqb (length memory) (policy .memory)
 
     start-wrong : fitting ≡ false → readStart policyBytes bytes registers memory ≡ stop WrongStart
     unfolding readStart _>>=_ check
@@ -110,14 +111,14 @@ module _ (policyBytes bytes registers memory : List ℕ) (budget : ℕ) where
       passes : readPolicy policyBytes ≡ value granted
       passes = policy-passed policyBytes m t
 
-      pub wrong-start : (eqb (length registers) 16 && eqb (length memory) w) ≡ false → (r : Outcome) → r ≡ refusalOutcome WrongStart → Promised r registers memory
+      pub wrong-start : (eqb (length registers) registerCount && eqb (length memory) w) ≡ false → (r : Outcome) → r ≡ refusalOutcome WrongStart → Promised r registers memory
       unfolding policyOf
       wrong-start f r o = stops WrongStart r (start-wrong granted passes (rw (← e) f)) o
 
-      pub runs-package : (eqb (length registers) 16 && eqb (length memory) w) ≡ true → (r : Outcome) (registers′ memory′ : List ℕ)
+      pub runs-package : (eqb (length registers) registerCount && eqb (length memory) w) ≡ true → (r : Outcome) (registers′ memory′ : List ℕ)
           → PackageRun (take (read .policy .count) (read .policy .regions)) bytes registers memory budget r registers′ memory′
           → Promised r registers′ memory′
       unfolding policyOf
       runs-package f r registers′ memory′ x =
-          let l : length memory ≡ w = eqb-true (length memory) w (and-eq-true-iff (eqb (length registers) 16) (eqb (length memory) w) .0 f .1) in
+          let l : length memory ≡ w = eqb-true (length memory) w (and-eq-true-iff (eqb (length registers) registerCount) (eqb (length memory) w) .0 f .1) in
           promise r registers′ memory′ (x .run granted (record { words = sym (l ∙ e); granted = refl }) ∙ starts granted passes (rw (← e) f) (codeOf bytes) refl)

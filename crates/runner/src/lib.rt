@@ -1,4 +1,6 @@
 // The runner: checks 3 to 6, 2, 7, 8, 9, and then the machine's run.
+use limits::MOST_REGIONS;
+use limits::REGISTERS;
 use model::Outcome;
 use model::Refusal;
 use model::Region;
@@ -8,6 +10,8 @@ use routine::instructions::CodeAnswer;
 ghost use mathlib.Core.Path.{_≡_};
 ghost use Prim.Native.Nat.{_≤_};
 ghost use lib.ListN.{length, take};
+ghost use Rattle.model.specs.Policy.{mostRegions};
+ghost use Rattle.model.specs.Expression.{registerCount};
 ghost use Rattle.runner.specs.Checks.{refusalOutcome, PackageRun, Runs};
 
 // The answer of a run that a check refuses.
@@ -24,13 +28,13 @@ fn refused(refusal: Refusal) -> Outcome
 // Checks 7, 8 and 9, and the run of a package that passes them.
 fn run_package(
     bytes: &[u8],
-    regions: [Region; 8],
+    regions: [Region; MOST_REGIONS],
     count: usize,
     registers: &mut [u32],
     memory: &mut [u32],
     budget: u32,
 ) -> Outcome
-    requires { ⌜ (count ≤ 8) × (length (now registers) ≡ 16) ⌝ }
+    requires { ⌜ (count ≤ mostRegions) × (length (now registers) ≡ registerCount) ⌝ }
     ensures { λ r. ⌜ PackageRun (take count regions) (now (bytes .entry)) (now (registers .entry)) (now (memory .entry)) budget r (now (registers .exit)) (now (memory .exit)) ⌝ }
 {
     let header = match routine::header::read_header(bytes) {
@@ -70,7 +74,7 @@ pub fn run(
         return refused(refusal);
     }
     let passed = read.policy;
-    if (registers.len() == 16) & (memory.len() == fields::wide(passed.memory)) {
+    if (registers.len() == REGISTERS) & (memory.len() == fields::wide(passed.memory)) {
         let regions = passed.regions;
         return run_package(bytes, regions, passed.count, registers, memory, budget);
     }

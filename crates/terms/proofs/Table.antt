@@ -9,11 +9,12 @@ use native.Mathlib.Omega.{arith}
 use lib.ListN.{length, getD, length-append, List·getD-append}
 use lib.Seq.{getD-at}
 use Rattle.model.specs.Term.{constant, sum, difference}
-use Rattle.terms.specs.Workspace.{workspaceWords, tableBase, Same, stored}
+use Rattle.model.specs.Verdict.{leastWorkspace}
+use Rattle.workspace.specs.Layout.{tableBase, Same, stored}
 use Rattle.terms.specs.Table.{low, high, place, marksAt, nodeOfTag, viewOf, build, termsBelow, termAt, termOf, InOrder, Known, Formed, Put, Space, Fits, Twinned}
 use Rattle.terms.specs.declared.Node.{Node}
 use Rattle.terms.specs.declared.Node.the-variants.{Constant, Variable, Sum, Difference}
-use Rattle.terms.proofs.Frames.{same-trans, same-within, stored-length, stored-before, stored-first, stored-second, stored-third}
+use Rattle.workspace.proofs.Frames.{same-trans, same-within, stored-length, stored-before, stored-first, stored-second, stored-third}
 
 -- ---- one node
 pub other-tag : (t p v : ℕ) → (t ≡ 0 → ⊥) → (t ≡ 1 → ⊥) → (t ≡ 2 → ⊥) → nodeOfTag t p v ≡ Difference (low p) (high p)
@@ -53,7 +54,7 @@ pub formed-less : {ws : List ℕ} {n : ℕ} (m : ℕ) → m ≤ n → Formed ws 
 formed-less m h f = record { room = omega arith; nodes = λ i l. f .nodes i (omega arith); known = λ i l. f .known i (omega arith) }
 
 -- no node
-pub formed-none : {ws : List ℕ} → workspaceWords ≤ length ws → Formed ws 0
+pub formed-none : {ws : List ℕ} → leastWorkspace ≤ length ws → Formed ws 0
 formed-none h = record { room = omega arith; nodes = λ i l. absurd (omega arith); known = λ i l. absurd (omega arith) }
 
 -- ---- node i as an arm of `match view(..)` knows it

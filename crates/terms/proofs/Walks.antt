@@ -13,16 +13,15 @@ use denote.Enum.Declared.{tagOf, declared}
 use Rattle.model.specs.Word.{addW, subW}
 use Rattle.model.specs.Term.{Term, constant, variable, sum, difference, eval, size, closed, eqTerm}
 use Rattle.model.proofs.Terms.{same-term, and-left, and-right}
-use Rattle.terms.specs.Workspace.{mostVariables, hintBase, Same}
+use Rattle.workspace.specs.Layout.{mostVariables, hintBase, Same}
 use Rattle.terms.specs.Closed.{closedValue}
-use Rattle.terms.specs.Table.{low, high, partsAt, valueAt, marksAt, closedAt, nodeOfTag, viewOf, build, termAt, termOf, tagOfTerm, bit, capped, factsOf, valueOf, InOrder, Known, Formed, Put, Fits, Twinned}
-use Rattle.terms.specs.Reader.{operationOf}
+use Rattle.terms.specs.Table.{low, high, partsAt, valueAt, marksAt, closedAt, nodeOfTag, viewOf, build, operationOf, termAt, termOf, tagOfTerm, bit, sizeCap, capped, factsOf, valueOf, InOrder, Known, Formed, Put, Fits, Twinned}
 use Rattle.terms.specs.declared.Closed.{Closed}
 use Rattle.terms.specs.declared.Closed.the-variants.{Value, Open}
 use Rattle.terms.specs.declared.Node.{Node}
 use Rattle.terms.specs.declared.Node.the-variants.{Constant, Variable, Sum, Difference}
 use Rattle.terms.proofs.Node.{enum}
-use Rattle.terms.proofs.Frames.{same-refl, set-before}
+use Rattle.workspace.proofs.Frames.{same-refl, set-before}
 use Rattle.terms.proofs.Table.{node-built, beside, same-terms}
 
 -- ---- what marks say
@@ -46,19 +45,19 @@ bits-product zero y h k = omega arith
 bits-product (suc zero) y h k = omega arith
 bits-product (suc (suc x)) y h k = absurd (omega arith)
 
-capped-over : (n : ℕ) → 256 ≤ n → capped n ≡ 256
+capped-over : (n : ℕ) → sizeCap ≤ n → capped n ≡ sizeCap
 capped-over n h = omega arith
 
-capped-under : (n : ℕ) → n ≤ 256 → capped n ≡ n
+capped-under : (n : ℕ) → n ≤ sizeCap → capped n ≡ n
 capped-under n h = omega arith
 
 -- sizes may be capped before they are added
 capped-sum : (a b : ℕ) → capped (a + b + 1) ≡ capped (capped a + capped b + 1)
-capped-sum a b = go (decLt 256 a) (decLt 256 b)
+capped-sum a b = go (decLt sizeCap a) (decLt sizeCap b)
   where
-    go : Dec (256 < a) → Dec (256 < b) → capped (a + b + 1) ≡ capped (capped a + capped b + 1)
-    go (yes h) k = rw (capped-over (a + b + 1) (omega arith), capped-over a (omega arith), capped-over (256 + capped b + 1) (omega arith))
-    go (no h) (yes k) = rw (capped-over (a + b + 1) (omega arith), capped-over b (omega arith), capped-over (capped a + 256 + 1) (omega arith))
+    go : Dec (sizeCap < a) → Dec (sizeCap < b) → capped (a + b + 1) ≡ capped (capped a + capped b + 1)
+    go (yes h) k = rw (capped-over (a + b + 1) (omega arith), capped-over a (omega arith), capped-over (sizeCap + capped b + 1) (omega arith))
+    go (no h) (yes k) = rw (capped-over (a + b + 1) (omega arith), capped-over b (omega arith), capped-over (capped a + sizeCap + 1) (omega arith))
     go (no h) (no k) = rw (capped-under a (omega arith), capped-under b (omega arith))
 
 module _ (m : ℕ) (t : Term) (e : low m ≡ factsOf t) where
@@ -70,7 +69,7 @@ module _ (m : ℕ) (t : Term) (e : low m ≡ factsOf t) where
   unfolding factsOf
   size-in = omega (arith, e, tag-bound t, bit-bound (closed t))
 
-  pub size-most : (n : ℕ) → n < 256 → leb (low m / 8) n ≡ leb (size t) n
+  pub size-most : (n : ℕ) → n < sizeCap → leb (low m / 8) n ≡ leb (size t) n
   size-most n l = rw size-in (go (decLt n (size t)))
     where
       go : Dec (n < size t) → leb (capped (size t)) n ≡ leb (size t) n

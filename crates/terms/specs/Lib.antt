@@ -1,4 +1,2 @@
-pub mod Workspace
 pub mod Table
 pub mod Closed
-pub mod Reader

@@ -7,7 +7,9 @@ use Prim.Native.Nat.{ℕ, zero, suc, _+_, _-_, _*_, _/_, _%_, _<_, _≤_}
 use lib.ListN.{length, getD}
 use lib.Dec.{eqb}
 use Rattle.model.specs.Term.{Term, constant, variable, sum, difference, eval, size, closed}
-use Rattle.terms.specs.Workspace.{workspaceWords, mostVariables, tableBase, mostTableNodes, hintBase, Same}
+use Rattle.model.specs.Verdict.{leastWorkspace}
+use Rattle.model.specs.Goals.{mostTermNodes}
+use Rattle.workspace.specs.Layout.{mostVariables, tableBase, mostTableNodes, hintBase, Same}
 use Rattle.terms.specs.declared.Node.{Node}
 use Rattle.terms.specs.declared.Node.the-variants.{Constant, Variable, Sum, Difference}
 
@@ -63,6 +65,13 @@ termsBelow ws (suc n) = termsBelow ws n ++ (build (λ j. getD (termsBelow ws n) 
 unfoldable pub termAt : List ℕ → ℕ → Term
 termAt ws i = getD (termsBelow ws (suc i)) i (constant 0)
 
+-- the operation of a tag: 2 is a sum, 3 a difference
+abbrev pub operationOf : (tag : ℕ) → Term → Term → Term
+operationOf zero = sum
+operationOf (suc zero) = sum
+operationOf (suc (suc zero)) = sum
+operationOf (suc (suc (suc t))) = difference
+
 -- node i is in order: its parts come before it, and a variable is below the bound
 abbrev pub InOrder : ℕ → Node → Type 0
 InOrder i (Constant c) = Unit {0}
@@ -81,9 +90,12 @@ abbrev pub bit : Bool → ℕ
 bit true = 1
 bit false = 0
 
--- a size, or 256 if it is more
+-- a size, up to one more than a register's term may have
+abbrev pub sizeCap : ℕ
+sizeCap = mostTermNodes + 1
+
 abbrev pub capped : ℕ → ℕ
-capped n = 256 - (256 - n)
+capped n = sizeCap - (sizeCap - n)
 
 -- the facts of a term: its tag, whether it is closed, and its size
 unfoldable pub factsOf : Term → ℕ
@@ -108,7 +120,7 @@ pub record Formed (ws : List ℕ) (top : ℕ) : Type 0 where
 
 -- room for n more nodes above top
 pub record Space (ws : List ℕ) (top n : ℕ) : Type 0 where
-  pub words : workspaceWords ≤ length ws
+  pub words : leastWorkspace ≤ length ws
   pub fits : top + n ≤ mostTableNodes
 
 -- node top is put, with the term t, above a table of top nodes

@@ -1,17 +1,19 @@
 // The term table in the lent workspace: node i lies in the three words from TABLE + 3 * i: its parts, its value and its marks. Beside each
 // node stand the facts that other walks would look for: its tag, its size, its value where it is closed, and an earlier node of the same
 // term where one is known.
-pub mod reader;
-
+use limits::MOST_TERM_NODES;
+use workspace::HINT_COUNT;
+use workspace::HINTS;
+use workspace::TABLE;
 ghost use mathlib.Core.Path.{_≡_};
 ghost use mathlib.Core.Bool.{_&&_};
 ghost use Prim.Native.Nat.{suc, _+_, _*_, _/_, _%_, _≤_, _<_};
 ghost use lib.ListN.{length, set};
 ghost use lib.Dec.{eqb, leb};
 ghost use Rattle.model.specs.Term.{constant, variable, sum, difference, eqTerm, size as sizeOf};
-ghost use Rattle.terms.specs.Workspace.{mostVariables, hintBase, hints, stored};
-ghost use Rattle.terms.specs.Table.{low as lowOf, high as highOf, partsAt, valueAt, marksAt, closedAt, viewOf, termAt, termOf, capped, valueOf, place, Formed, Space, Put, Fits, Twinned};
-ghost use Rattle.terms.specs.Reader.{operationOf};
+ghost use Rattle.model.specs.Goals.{mostTermNodes};
+ghost use Rattle.workspace.specs.Layout.{mostVariables, hintBase, hints, stored};
+ghost use Rattle.terms.specs.Table.{low as lowOf, high as highOf, partsAt, valueAt, marksAt, closedAt, viewOf, operationOf, termAt, termOf, sizeCap, capped, valueOf, place, Formed, Space, Put, Fits, Twinned};
 ghost use Rattle.terms.specs.Closed.{closedValue};
 
 // A node of the table: a sum and a difference name their parts by node number.
@@ -28,11 +30,8 @@ pub enum Closed {
     Open,
 }
 
-// Where the table begins.
-const TABLE: usize = 1560;
-
-// Where the hints begin.
-const HINTS: usize = 15360;
+// Sizes are kept up to this, one more than the nodes of a register's term.
+const SIZE_CAP: u32 = MOST_TERM_NODES + 1;
 
 // The facts of a constant: tag 0, closed, one node.
 const CONSTANT: u32 = 12;
@@ -87,7 +86,7 @@ fn is_closed(marks: u32) -> u32
     marks / 4 % 2
 }
 
-// The size in marks: 256 if it is more.
+// The size in marks: the cap if it is more.
 fn size(marks: u32) -> u32
     ensures { λ r. ⌜ (r ≡ lowOf marks / 8) × (r < 8192) ⌝ }
 {
@@ -144,7 +143,7 @@ fn slot(parts: u32, value: u32, facts: u32) -> usize
     ensures { λ r. ⌜ (hintBase ≤ r) × (r < hintBase + hints) ⌝ }
 {
     let x = (parts as u64) * 40503 + (value as u64) * 60493 + (facts as u64) * 9973;
-    let mixed = (x / 65536 + x) % 1024;
+    let mixed = (x / 65536 + x) % (HINT_COUNT as u64);
     HINTS + (mixed as usize)
 }
 
@@ -211,12 +210,12 @@ pub fn put_variable(ws: &mut [u32], top: usize, number: u32)
     put(ws, top, number, 0, VARIABLE);
 }
 
-// A size, or 256 if it is more.
-fn at_most_256(size: u32) -> u32
-    ensures { λ r. ⌜ (r ≡ capped size) × (r ≤ 256) ⌝ }
+// A size, or the cap if it is more.
+fn at_most_cap(size: u32) -> u32
+    ensures { λ r. ⌜ (r ≡ capped size) × (r ≤ sizeCap) ⌝ }
 {
-    if 256 < size {
-        return 256;
+    if SIZE_CAP < size {
+        return SIZE_CAP;
     }
     size
 }
@@ -226,7 +225,7 @@ fn joined(tag: u32, a: u32, b: u32) -> u32
     requires { ⌜ tag < 4 ⌝ }
     ensures { λ r. ⌜ (r ≡ tag + 4 * ((a / 4 % 2) * (b / 4 % 2)) + 8 * capped (lowOf a / 8 + lowOf b / 8 + 1)) × (r < 65536) ⌝ }
 {
-    let size = at_most_256(size(a) + size(b) + 1);
+    let size = at_most_cap(size(a) + size(b) + 1);
     tag + 4 * (is_closed(a) * is_closed(b)) + 8 * size
 }
 
@@ -370,19 +369,19 @@ pub fn evaluate(ws: &[u32], i: usize) -> Closed
     }
 }
 
-// Whether node i's term has at most so many nodes, below 256.
+// Whether node i's term has at most so many nodes, below the cap.
 pub fn at_most(ws: &[u32], i: usize, nodes: u32) -> bool
     requires { ⌜ Formed (now ws) (suc i) ⌝ }
-    requires { ⌜ nodes < 256 ⌝ }
+    requires { ⌜ nodes < sizeCap ⌝ }
     ensures { λ r. ⌜ r ≡ leb (sizeOf (termAt (now (ws .entry)) i)) nodes ⌝ }
 {
     size(marks(ws, i)) <= nodes
 }
 
-// Whether node i's term has at most 255 nodes.
+// Whether node i's term is small enough for a register.
 pub fn small(ws: &[u32], i: usize) -> bool
     requires { ⌜ Formed (now ws) (suc i) ⌝ }
-    ensures { λ r. ⌜ r ≡ leb (sizeOf (termAt (now (ws .entry)) i)) 255 ⌝ }
+    ensures { λ r. ⌜ r ≡ leb (sizeOf (termAt (now (ws .entry)) i)) mostTermNodes ⌝ }
 {
-    at_most(ws, i, 255)
+    at_most(ws, i, MOST_TERM_NODES)
 }

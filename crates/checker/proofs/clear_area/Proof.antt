@@ -3,6 +3,7 @@ use lib.Seq.{length-take-le, length-front}
 use Rattle.checker.proofs.Fills as fills
 use denote.Ref.{now}
 use mathlib.Core.Path.{sym}
+use Rattle.workspace.specs.Layout.{areaWords}
 use Rattle.checker.proofs.clear_area.Statement.{statement}
 use Rattle.checker.proofs.clear_area.Tie as tie
 
@@ -10,13 +11,13 @@ slice-relend-prefix-clear : tie.Need-slice-relend-prefix-clear
 slice-relend-prefix-clear c = search needs
 
 slice-aggregate-clear : tie.Need-slice-aggregate-clear
-slice-aggregate-clear c = sym (length-take-le 1000 (now (c .before .before .args .workspace)) (c .before .before .pre))
+slice-aggregate-clear c = sym (length-take-le areaWords (now (c .before .before .args .workspace)) (c .before .before .pre))
 
 clear-requires : tie.Need-clear-requires
 clear-requires c κs = search needs
 
 same-length : tie.Need-same-length
-same-length c = length-front (now (c .before .before .before .before .before .args .workspace)) (c .before .before .clear .last .0) 1000 (c .before .before .clear .kept .0)
+same-length c = length-front (now (c .before .before .before .before .before .args .workspace)) (c .before .before .clear .last .0) areaWords (c .before .before .clear .kept .0)
 
 returns : tie.Need-returns
 returns c = fills.front-cleared (now (c .before .before .before .before .before .args .workspace)) _ (c .before .before .before .before .before .pre) (c .before .before .clear .ensures)

@@ -2,6 +2,7 @@ use Rattle.goals.proofs.Walking.{path-ready}
 use Rattle.goals.proofs.Arriving.{arrival-unread, arrival-asks, arrival-stopped, owed-asks, arrival-judged}
 use native.Mathlib.Omega.{arith}
 use borrow.Author.Needs.{needs}
+use Rattle.model.specs.Expression.{mostNodes}
 use Rattle.goals.proofs.arrival.Statement.{statement}
 use Rattle.goals.proofs.arrival.Tie as tie
 
@@ -9,7 +10,7 @@ add-expression : tie.Need-add-expression
 add-expression c = search needs
 
 expression-requires : tie.Need-expression-requires
-expression-requires c κs = ((c .before .before .before .before .before .pre .0 .0, omega arith), path-ready 31 (omega arith) (c .before .before .before .before .before .pre .1 .0 .inside) (c .before .before .before .before .before .pre .1 .0 .space))
+expression-requires c κs = ((c .before .before .before .before .before .pre .0 .0, omega arith), path-ready mostNodes (omega arith) (c .before .before .before .before .before .pre .1 .0 .inside) (c .before .before .before .before .before .pre .1 .0 .space))
 
 enum-known-read : tie.Need-enum-known-read
 enum-known-read c = search needs

@@ -10,14 +10,14 @@ size-requires c κs = search needs
 size-requires-2 : tie.Need-size-requires-2
 size-requires-2 c κs = search needs
 
-add-at-most-256 : tie.Need-add-at-most-256
-add-at-most-256 c = search needs
+add-at-most-cap : tie.Need-add-at-most-cap
+add-at-most-cap c = search needs
 
-add-at-most-256-2 : tie.Need-add-at-most-256-2
-add-at-most-256-2 c = search needs
+add-at-most-cap-2 : tie.Need-add-at-most-cap-2
+add-at-most-cap-2 c = search needs
 
-at-most-256-requires : tie.Need-at-most-256-requires
-at-most-256-requires c κs = search needs
+at-most-cap-requires : tie.Need-at-most-cap-requires
+at-most-cap-requires c κs = search needs
 
 is-closed-requires : tie.Need-is-closed-requires
 is-closed-requires c κs = search needs
@@ -41,7 +41,7 @@ add-result-2 : tie.Need-add-result-2
 add-result-2 c = omega (arith, bits-product _ _ (c .before .is-closed .ensures .1) (c .is-closed2 .ensures .1))
 
 returns : tie.Need-returns
-returns c = (rw (c .before .is-closed .ensures .0, c .is-closed2 .ensures .0, c .before .before .at-most-256 .ensures .0, c .before .before .before .before .size .ensures .0, c .before .before .before .size2 .ensures .0), omega (arith, bits-product _ _ (c .before .is-closed .ensures .1) (c .is-closed2 .ensures .1)))
+returns c = (rw (c .before .is-closed .ensures .0, c .is-closed2 .ensures .0, c .before .before .at-most-cap .ensures .0, c .before .before .before .before .size .ensures .0, c .before .before .before .size2 .ensures .0), omega (arith, bits-product _ _ (c .before .is-closed .ensures .1) (c .is-closed2 .ensures .1)))
 
 pub joined-spec : {M : Type 1} → statement M
 joined-spec =
@@ -49,9 +49,9 @@ joined-spec =
     (tie.spec
     size-requires
     size-requires-2
-    add-at-most-256
-    add-at-most-256-2
-    at-most-256-requires
+    add-at-most-cap
+    add-at-most-cap-2
+    at-most-cap-requires
     is-closed-requires
     is-closed-requires-2
     mul-result

@@ -8,7 +8,8 @@ use Rattle.goals.proofs.blocks.assume.Kinds as kinds
 use Rattle.goals.proofs.blocks.+assume.Lts-assume as lts
 use Rattle.goals.proofs.blocks.assuming.Reads as assuming-reads
 use Rattle.goals.proofs.raised.Reads as raised-reads
-use Rattle.terms.proofs.reader.atom.Reads as atom-reads
+use Rattle.term_reader.proofs.atom.Reads as atom-reads
+use Rattle.term_reader.specs.Reader.{atomNodes}
 use Rattle.goals.proofs.blocks.+assume.{statement}
 use Rattle.goals.proofs.blocks.+assume.Tie.{close}
 use Rattle.goals.proofs.Walking.{path-ready}
@@ -31,7 +32,7 @@ module _ (t : ℕ) where
   returns c = assume-none (c .before .before .before .pre .1 .1) (c .if1 .taken)
 
   atom-requires : lts.Need-atom-requires (R t) (given t) it.Post
-  atom-requires c κs = ((c .before .before .before .before .before .pre .1 .0, omega arith), path-ready 62 (omega (arith, c .before .before .if1 .left)) (c .before .before .before .before .before .pre .1 .1 .inside) (c .before .before .before .before .before .pre .1 .1 .space))
+  atom-requires c κs = ((c .before .before .before .before .before .pre .1 .0, omega arith), path-ready atomNodes (omega (arith, c .before .before .if1 .left)) (c .before .before .before .before .before .pre .1 .1 .inside) (c .before .before .before .before .before .pre .1 .1 .space))
 
   enum-known-read : lts.Need-enum-known-read (R t) (given t) it.Post
   enum-known-read c = search needs

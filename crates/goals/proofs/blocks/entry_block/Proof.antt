@@ -11,6 +11,9 @@ start-requires c κs = search needs
 put-constant-requires : tie.Need-put-constant-requires
 put-constant-requires c κs = start-asks (c .before .before .before .start .ensures) (omega (arith, c .before .before .before .before .before .before .before .pre .0 .words, c .before .before .before .start .kept .0))
 
+add-raised : tie.Need-add-raised
+add-raised c = search needs
+
 raised-requires : tie.Need-raised-requires
 raised-requires c κs = search needs
 
@@ -29,7 +32,7 @@ entry-block-spec =
     (tie.spec
     start-requires
     put-constant-requires
-    raised-requires
+    add-raised raised-requires
     assume-requires
     same-length
     returns)

@@ -2,13 +2,14 @@ use borrow.Author.Needs.{needs}
 use Rattle.goals.proofs.blocks.variables.Statement.{statement}
 use Rattle.goals.proofs.blocks.variables.Tie as tie
 use Prim.Native.Nat.{_-_}
+use Rattle.model.specs.Expression.{registerCount}
 use Rattle.goals.proofs.Starting.{Filling, filling-none, filling-asks, filling-more, filled}
 
 abbrev Inv-loop : tie.InvT-loop
 Inv-loop ws₀ v₀ ws v = Filling ws₀ ws v
 
 abbrev μ-loop : tie.MeasureT-loop
-μ-loop ws₀ v₀ ws v = 16 - v
+μ-loop ws₀ v₀ ws v = registerCount - v
 
 loop-holds : tie.Need-loop-holds Inv-loop μ-loop
 loop-holds c = filling-none (c .before .pre)

@@ -2,6 +2,7 @@ use mathlib.Core.Path.{refl}
 use Prim.Native.Nat.{_-_}
 use Rattle.routine.proofs.Codes.{Reading, read-start, read-more, read-refused, read-done}
 use borrow.Author.Needs.{needs}
+use Rattle.model.specs.Package.{mostInstructions}
 use Rattle.routine.proofs.instructions.read_code.Statement.{statement}
 use Rattle.routine.proofs.instructions.read_code.Tie as tie
 
@@ -12,7 +13,7 @@ abbrev μ-loop : tie.MeasureT-loop
 μ-loop bytes header code₀ index₀ code index = header .instructions - index
 
 loop-holds : tie.Need-loop-holds Inv-loop μ-loop
-loop-holds c = read-start _ _ 256 refl
+loop-holds c = read-start _ _ mostInstructions refl
 
 instruction-requires : tie.Need-instruction-requires Inv-loop μ-loop
 instruction-requires c κs = search needs

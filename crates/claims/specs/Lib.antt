@@ -1,0 +1,4 @@
+pub mod Parts
+pub mod Rule
+pub mod Plan
+pub mod Regions

@@ -1,0 +1,4 @@
+pub mod Reading
+pub mod Building
+pub mod Atoms
+pub mod Substitution

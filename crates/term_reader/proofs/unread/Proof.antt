@@ -1,0 +1,16 @@
+use Rattle.term_reader.proofs.Atoms.{unread-fault, unread-other}
+use borrow.Author.Needs.{needs}
+use Rattle.term_reader.proofs.unread.Statement.{statement}
+use Rattle.term_reader.proofs.unread.Tie as tie
+
+enum-known-answer : tie.Need-enum-known-answer
+enum-known-answer c = search needs
+
+returns : tie.Need-returns
+returns c = unread-fault (c .before .answer .given .1)
+
+returns-2 : tie.Need-returns-2
+returns-2 c = unread-other (c .before .args .answer) (c .match .keys2)
+
+pub unread-spec : {M : Type 1} → statement M
+unread-spec = tie.close (tie.spec enum-known-answer returns returns-2)

@@ -1,0 +1,28 @@
+// The layout of the lent workspace as constants of code: specs/Layout has the same places by name, and says what stands where.
+use limits::LEAST_WORKSPACE;
+use limits::MOST_ATOMS;
+use limits::REGISTERS;
+
+// pathRoom: there is room for paths of so many instructions.
+const PATH_ROOM: usize = 512;
+
+// mostVariables: the numbers of variables are below this.
+pub const MOST_VARIABLES: usize = REGISTERS + PATH_ROOM;
+
+// constantWord: the constant of a linear form.
+pub const CONSTANT: usize = MOST_VARIABLES + REGISTERS;
+
+// areaWords: the words of a linear form.
+pub const AREA_WORDS: usize = CONSTANT + 1;
+
+// assumptionBase: where the assumptions begin.
+pub const ASSUMPTIONS: usize = AREA_WORDS + PATH_ROOM;
+
+// tableBase: where the term table begins.
+pub const TABLE: usize = ASSUMPTIONS + MOST_ATOMS + PATH_ROOM;
+
+// hints: how many hints there are.
+pub const HINT_COUNT: usize = 1024;
+
+// hintBase: where the hints begin.
+pub const HINTS: usize = LEAST_WORKSPACE - HINT_COUNT;
