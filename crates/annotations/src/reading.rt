@@ -13,13 +13,6 @@ ghost use Rattle.expressions.specs.Reading.{Reads};
 ghost use Rattle.routine.specs.Headers.{Fits};
 ghost use Rattle.annotations.specs.Annotations.{bodyAt, AnnotationRead, AnnotationsMet};
 
-// A byte as a count.
-fn count_of(x: u8) -> usize
-    ensures { λ r. ⌜ r ≡ x ⌝ }
-{
-    x as usize
-}
-
 // A position or an index as a word.
 fn narrow(x: usize) -> u32
     requires { ⌜ x < 2 ^ 32 ⌝ }
@@ -62,7 +55,7 @@ pub fn annotation(bytes: &[u8], header: Header, lowest: usize, at: usize) -> Ann
     if end - at < 3 {
         return AnnotationAnswer::Refused(Refusal::AnnotationBytes(end));
     }
-    let count = count_of(bytes[at + 2]);
+    let count = fields::wide_byte(bytes[at + 2]);
     if MOST_ATOMS < count {
         return AnnotationAnswer::Refused(Refusal::BadAnnotation(at + 2));
     }

@@ -17,15 +17,15 @@ use Rattle.model.specs.Package.{mostInstructions}
 use Rattle.routine.specs.Code.{Formed}
 use Rattle.claims.specs.Regions.{regionsOf}
 use Rattle.goals.specs.Judging.{Reached}
-use Rattle.goals.specs.Walking.{pathOf, PathIn}
-use Rattle.goals.specs.declared.Path.{Path}
+use Rattle.paths.specs.Walking.{pathOf, PathIn}
+use Rattle.paths.specs.declared.Path.{Path}
 use Rattle.goals.specs.declared.Progress.{Progress}
 use Rattle.moves.specs.declared.Setting.{Setting}
 use Rattle.moves.specs.declared.Moved.{Moved}
 use Rattle.moves.specs.Setting.{Stands, Fixed, Tables, TablesStand}
 use Rattle.moves.specs.Moves.{MoveJudged, Moves, Branches, Assigns, Accesses}
 use Rattle.evaluation.specs.Walks.{Advances}
-use Rattle.moves.proofs.PathLaws.{register-term}
+use Rattle.paths.proofs.Kept.{register-term}
 use Rattle.moves.proofs.Standing.{regions-stand, postcondition-stands}
 
 -- an instruction's fields, once its kind is known

@@ -25,22 +25,24 @@ use Rattle.workspace.proofs.Frames.{same-within}
 use Rattle.linear.specs.Area.{Cleared}
 use Rattle.annotations.specs.Annotations.{annotationAtPlace}
 use Rattle.goals.specs.Judging.{Reached, ReachedAfter, verdictAfter, JudgesTrace}
-use Rattle.goals.specs.Walking.{pathOf, NodeIn, Going, goalRoom}
-use Rattle.goals.specs.Starting.{Workspace, BlockIn, EntryBlock, AnnotationBlock}
+use Rattle.paths.specs.Walking.{pathOf, NodeIn, Kept}
+use Rattle.goals.specs.Room.{Going, goalRoom}
+use Rattle.blocks.specs.Starting.{Workspace, BlockIn, EntryBlock, AnnotationBlock}
 use Rattle.goals.specs.declared.Progress.{Progress}
 use Rattle.goals.specs.declared.Judged.{Judged}
 use Rattle.goals.specs.declared.Judged.the-variants.{Next, Refused}
-use Rattle.goals.specs.declared.blocks.Block.{Block}
+use Rattle.blocks.specs.declared.Block.{Block}
 use Rattle.moves.specs.declared.Setting.{Setting}
 use Rattle.moves.specs.declared.Arrived.{Arrived}
 use Rattle.moves.specs.declared.Arrived.the-variants.{At, Nowhere}
 use Rattle.moves.specs.Setting.{Stands, Fixed, Tables, TablesStand}
 use Rattle.moves.specs.Standing.{AnnotationStands}
-use Rattle.moves.specs.Moves.{RoomFor, Kept, ArrivedAs, ReachedThere, Arrives}
+use Rattle.moves.specs.Moves.{RoomFor, ArrivedAs, ReachedThere, Arrives}
 use Rattle.evaluation.specs.Walks.{Walks}
 use Rattle.evaluation.specs.Blocks.{TraceJudged, verdictOf}
 use Rattle.goals.proofs.Judging.{goals-end, trace-end, trace-stopped, trace-both, trace-whole}
-use Rattle.moves.proofs.PathLaws.{kept-same, node-equal, node-held, path-equal, room-kept}
+use Rattle.paths.proofs.Kept.{kept-same, node-equal, node-held, path-equal}
+use Rattle.moves.proofs.PathLaws.{room-kept}
 use Rattle.moves.proofs.Standing.{limit-stands, precondition-stands, code-long, placed-stands, index-at, annotation-at, annotations-long}
 use Rattle.evaluation.proofs.Advancing.{fixed-tables, fixed-stand}
 

@@ -24,8 +24,9 @@ use Rattle.routine.specs.declared.instructions.InstructionAnswer.{InstructionAn
 use Rattle.routine.specs.declared.instructions.InstructionAnswer.the-variants as read
 use Rattle.routine.proofs.Facts.{code-at}
 use Rattle.goals.specs.Judging.{Reached, JudgesTrace}
-use Rattle.goals.specs.Walking.{pathOf, NodeIn, Going, goalRoom}
-use Rattle.goals.specs.declared.Path.{Path}
+use Rattle.paths.specs.Walking.{pathOf, NodeIn, Kept}
+use Rattle.goals.specs.Room.{Going, goalRoom}
+use Rattle.paths.specs.declared.Path.{Path}
 use Rattle.goals.specs.declared.Progress.{Progress}
 use Rattle.goals.specs.declared.Judged.{Judged}
 use Rattle.goals.specs.declared.Judged.the-variants.{Next as Judged-on, Refused as Judged-refused}
@@ -36,10 +37,11 @@ use Rattle.moves.specs.declared.MovedAnswer.the-variants.{On, Ended, Refused}
 use Rattle.moves.specs.declared.Arrived.{Arrived}
 use Rattle.moves.specs.declared.Arrived.the-variants.{At, Nowhere}
 use Rattle.moves.specs.Setting.{Stands, Fixed, Tables, TablesStand}
-use Rattle.moves.specs.Moves.{RoomFor, Kept, Advanced, Leads, MoveJudged, ArrivedAs, ReachedThere, Arrives}
+use Rattle.moves.specs.Moves.{RoomFor, Advanced, Leads, MoveJudged, ArrivedAs, ReachedThere, Arrives}
 use Rattle.evaluation.specs.Walks.{Advances, Fetched, Walks}
 use Rattle.moves.proofs.Moving.{moveAt, walk-past, walk-refused, walk-ended, walk-onward, walk-arrived}
-use Rattle.moves.proofs.PathLaws.{kept-same, node-equal, node-held, node-wider, path-equal, room-kept}
+use Rattle.paths.proofs.Kept.{kept-same, node-equal, node-held, node-wider, path-equal}
+use Rattle.moves.proofs.PathLaws.{room-kept}
 use Rattle.moves.proofs.Standing.{code-long}
 use Rattle.evaluation.proofs.Advancing.{fixed-tables, fixed-stand}
 

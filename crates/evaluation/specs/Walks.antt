@@ -15,8 +15,8 @@ use Rattle.model.specs.declared.Instruction.the-variants.{Return}
 use Rattle.workspace.specs.Layout.{assumptionBase, Same}
 use Rattle.routine.specs.Code.{Formed}
 use Rattle.goals.specs.Judging.{ReachedAfter, JudgesTrace}
-use Rattle.goals.specs.Walking.{pathOf}
-use Rattle.goals.specs.declared.Path.{Path}
+use Rattle.paths.specs.Walking.{pathOf}
+use Rattle.paths.specs.declared.Path.{Path}
 use Rattle.goals.specs.declared.Progress.{Progress}
 use Rattle.goals.specs.declared.Judged.{Judged}
 use Rattle.moves.specs.Setting.{Stands}

@@ -1,5 +1,5 @@
 // Symbolic evaluation of a routine: blocks in order, each goal derived as it arises.
-pub mod blocks;
+pub mod all_blocks;
 pub mod walks;
 
 use goals::Judged;
@@ -13,7 +13,7 @@ ghost use Rattle.model.specs.Policy.{Policy as ModelPolicy};
 ghost use Rattle.model.specs.Routine.{Routine};
 ghost use Rattle.model.specs.Goals.{traceOf};
 ghost use Rattle.model.specs.Verdict.{refusing, judge};
-ghost use Rattle.goals.specs.Starting.{Workspace};
+ghost use Rattle.blocks.specs.Starting.{Workspace};
 ghost use Rattle.moves.specs.Setting.{Settled, Stands};
 ghost use Rattle.evaluation.specs.Blocks.{verdictOf};
 
@@ -66,7 +66,7 @@ pub fn evaluate(
         at: setting.end,
         goals: 0,
     };
-    let judged = blocks::evaluate_blocks(
+    let judged = all_blocks::evaluate_blocks(
         bytes,
         conditions,
         &regions,

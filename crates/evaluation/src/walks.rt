@@ -1,6 +1,5 @@
 // The walk along a path, instruction by instruction.
 use goals::Judged;
-use goals::Path;
 use goals::Progress;
 use model::Comparison;
 use model::Header;
@@ -14,6 +13,7 @@ use moves::accesses;
 use moves::assignments;
 use moves::assignments::Operation;
 use moves::jumps;
+use paths::Path;
 use routine::instructions;
 use routine::instructions::InstructionAnswer;
 ghost use mathlib.Core.Path.{_≡_};
@@ -22,7 +22,7 @@ ghost use Rattle.terms.specs.Table.{termAt};
 ghost use Rattle.routine.specs.Headers.{Fits};
 ghost use Rattle.routine.specs.Code.{Formed};
 ghost use Rattle.goals.specs.Judging.{Reached};
-ghost use Rattle.goals.specs.Walking.{NodeIn};
+ghost use Rattle.paths.specs.Walking.{NodeIn};
 ghost use Rattle.moves.specs.Setting.{Fixed};
 ghost use Rattle.moves.specs.Moves.{RoomFor};
 ghost use Rattle.evaluation.specs.Walks.{Fetched, Advances, Walks};

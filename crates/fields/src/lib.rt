@@ -13,6 +13,13 @@ pub fn wide(x: u32) -> usize
     x as usize
 }
 
+// A byte as a position or a count.
+pub fn wide_byte(x: u8) -> usize
+    ensures { λ r. ⌜ r ≡ x ⌝ }
+{
+    x as usize
+}
+
 // A byte as a word.
 fn byte(x: u8) -> u32
     ensures { λ r. ⌜ (r ≡ x) × (r < 256) ⌝ }

@@ -1,7 +1,4 @@
-pub mod Reading
 pub mod Judging
-pub mod Walking
-pub mod Found
+pub mod Room
 pub mod Settling
 pub mod Arriving
-pub mod Starting

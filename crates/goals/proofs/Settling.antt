@@ -29,17 +29,19 @@ use Rattle.claims.specs.declared.Claim.{Claim}
 use Rattle.claims.specs.declared.Claim.the-variants.{Atom as AtomClaim}
 use Rattle.derivation.specs.declared.Derived.{Derived}
 use Rattle.derivation.specs.declared.Derived.the-variants.{Next as Derived-to, Refused as Not-derived}
-use Rattle.goals.specs.declared.Path.{Path}
+use Rattle.paths.specs.declared.Path.{Path}
 use Rattle.goals.specs.declared.Progress.{Progress}
 use Rattle.goals.specs.declared.Judged.{Judged}
 use Rattle.goals.specs.declared.Judged.the-variants.{Next, Refused}
 use Rattle.goals.specs.Judging.{Judges}
-use Rattle.goals.specs.Walking.{pathOf, raisedTo, scopeOf, NodeIn, ClaimIn, PathIn, Going, derivationRoom, atomRoom}
+use Rattle.paths.specs.Walking.{pathOf, raisedTo, scopeOf, NodeIn, ClaimIn, PathIn}
+use Rattle.goals.specs.Room.{Going, derivationRoom, atomRoom}
 use Rattle.goals.specs.Settling.{Left, GoalJudged, AtomsJudged}
-use Rattle.goals.proofs.Reading.{same-value, no-atoms, first-atom}
+use Rattle.paths.proofs.Reading.{same-value, no-atoms, first-atom}
 use Rattle.goals.proofs.Judging.{judges-none, judges-refused, judges-derived, judges-stopped, judges-both, reached-next}
-use Rattle.goals.proofs.Walking.{path-same, Above, going-kept, going-above}
-use Rattle.goals.proofs.Found.{AtomFound, atom-found, no-atom}
+use Rattle.paths.proofs.Walking.{path-same, Above}
+use Rattle.goals.proofs.Room.{going-kept, going-above}
+use Rattle.paths.proofs.Found.{AtomFound, atom-found, no-atom}
 
 -- ---- one goal
 module _ {ws words bytes : List ℕ} {count : ℕ} {path : Path} {claim : Claim} {p : Progress} (y : Going ws words bytes count derivationRoom path p) where

@@ -1,6 +1,4 @@
 // Goals: each is made, derived at once where the proof has been read to, counted and forgotten.
-pub mod blocks;
-
 use claims::Claim;
 use claims::Goal;
 use claims::Scope;
@@ -8,15 +6,16 @@ use derivation::Derived;
 use limits::REGISTERS;
 use model::Comparison;
 use model::Refusal;
+use paths::Path;
 use term_reader::AtomParse;
 use term_reader::Parse;
-ghost use mathlib.Core.Path.{_≡_};
 ghost use Prim.Native.Nat.{_+_, _≤_, _<_};
 ghost use lib.ListN.{length};
 ghost use Rattle.terms.specs.Table.{termAt};
 ghost use Rattle.claims.specs.Parts.{claimOf};
 ghost use Rattle.claims.specs.Regions.{regionsOf};
-ghost use Rattle.goals.specs.Walking.{pathOf, raisedTo, NodeIn, ClaimIn, Going, derivationRoom, atomRoom, creditRoom, goalRoom};
+ghost use Rattle.paths.specs.Walking.{pathOf, NodeIn, ClaimIn};
+ghost use Rattle.goals.specs.Room.{Going, derivationRoom, atomRoom, creditRoom, goalRoom};
 ghost use Rattle.goals.specs.Settling.{GoalJudged, AtomsJudged, CreditsJudged, ArrivalJudged, ReturnJudged};
 
 // Where the proof has been read to, and how many goals are derived.
@@ -29,32 +28,6 @@ pub struct Progress {
 pub enum Judged {
     Next(Progress),
     Refused(Refusal, usize),
-}
-
-// A path of a block: where it has come to, instructions run, variables so far, assumptions so far, the top of the term table, and each
-// register's node.
-pub struct Path {
-    pub counter: usize,
-    pub steps: usize,
-    pub variables: usize,
-    pub assumptions: usize,
-    pub top: usize,
-    pub registers: [u32; REGISTERS],
-}
-
-// A byte as a number.
-fn wide(x: u8) -> usize
-    ensures { λ r. ⌜ r ≡ x ⌝ }
-{
-    x as usize
-}
-
-// The path with more nodes in the table.
-pub fn raised(mut path: Path, top: usize) -> Path
-    ensures { λ r. ⌜ r ≡ raisedTo path top ⌝ }
-{
-    path.top = top;
-    path
 }
 
 // One claim of the path, derived where the proof has been read to.
@@ -126,7 +99,7 @@ fn atoms(
         regions,
         count,
         ws,
-        raised(path, top),
+        paths::raised(path, top),
         Claim::Atom(kind, left, right),
         progress,
     );
@@ -167,7 +140,7 @@ fn credits(
     let rest = spent + 1;
     terms::put_constant(ws, spent, path.steps as u32);
     terms::put_difference(ws, rest, credit, spent);
-    let inner = raised(path, rest + 1);
+    let inner = paths::raised(path, rest + 1);
     let covered = Claim::Atom(Comparison::AtMost, spent, credit);
     let first = goal(bytes, regions, count, ws, inner, covered, progress);
     let Judged::Next(after) = first else {
@@ -206,8 +179,8 @@ pub fn arrival(
     else {
         return Judged::Refused(Refusal::AnnotationBytes(at), progress.goals);
     };
-    let inner = raised(path, top);
-    let number = wide(bytes[at + 2]);
+    let inner = paths::raised(path, top);
+    let number = fields::wide_byte(bytes[at + 2]);
     let first = atoms(
         bytes,
         end,
@@ -270,7 +243,7 @@ pub fn returning(
     };
     let spent = path.top;
     terms::put_constant(ws, spent, (path.steps + 1) as u32);
-    let inner = raised(path, spent + 1);
+    let inner = paths::raised(path, spent + 1);
     let covered = Claim::Atom(Comparison::AtMost, spent, credit);
     goal(bytes, regions, count, ws, inner, covered, after)
 }

@@ -14,20 +14,23 @@ use Rattle.model.specs.declared.Refusal.{Refusal}
 use Rattle.model.specs.Expression.{registerCount}
 use Rattle.terms.specs.Table.{place, termAt, Put}
 use Rattle.workspace.proofs.Frames.{same-trans, same-within}
-use Rattle.goals.specs.declared.Path.{Path}
+use Rattle.paths.specs.declared.Path.{Path}
 use Rattle.goals.specs.declared.Progress.{Progress}
 use Rattle.goals.specs.declared.Judged.{Judged}
 use Rattle.goals.specs.declared.Judged.the-variants.{Next as Judged-on, Refused as Judged-refused}
 use Rattle.moves.specs.declared.Moved.{Moved}
 use Rattle.moves.specs.declared.MovedAnswer.the-variants.{On, Refused}
 use Rattle.goals.specs.Judging.{Reached, ReachedAfter, Judges}
-use Rattle.goals.specs.Walking.{pathOf, raisedTo, ClaimIn, PathIn, Going, derivationRoom}
+use Rattle.paths.specs.Walking.{pathOf, raisedTo, ClaimIn, PathIn, steppedTo, writtenTo, oneVariable, Kept}
+use Rattle.goals.specs.Room.{Going, derivationRoom}
 use Rattle.claims.specs.declared.Claim.the-variants.{Readable, Writable}
 use Rattle.claims.specs.Regions.{RegionWords}
 use Rattle.goals.specs.Settling.{GoalJudged}
-use Rattle.moves.specs.Moves.{steppedTo, writtenTo, oneVariable, RoomFor, Built, Kept, Advanced, MoveJudged, Accesses, Loads}
+use Rattle.moves.specs.Moves.{RoomFor, Built, Advanced, MoveJudged, Accesses, Loads}
 use Rattle.moves.proofs.Moving.{move-on, move-stopped}
-use Rattle.moves.proofs.PathLaws.{kept-none, kept-same, kept-then, path-held, path-equal, path-higher, path-written, written-path, path-stepped, path-variable}
+use Rattle.paths.proofs.Kept.{kept-none, kept-same, kept-then, path-held, path-equal}
+use Rattle.paths.proofs.Walking.{path-raised}
+use Rattle.moves.proofs.PathLaws.{path-written, written-path, path-stepped, path-variable}
 
 -- ---- the next variable
 variable-bound : (v : ℕ) → variableBound (variable v) ≤ v + 1
@@ -45,7 +48,7 @@ module _ {ws us : List ℕ} {path : Path} {d : ℕ} (p : Progress) (g : RoomFor 
   kept = kept-same path (g .path-in .prepared 0 .assumed .few) (u .kept)
 
   higher-in : PathIn us higher
-  higher-in = path-variable (path-higher (path-held kept (g .path-in) long) (path .top + 1) (omega arith) (rw (add-one (path .top)) (u .formed))) (omega (arith, g .loaded))
+  higher-in = path-variable (path-raised (path .top + 1) (omega arith) (rw (add-one (path .top)) (u .formed)) (path-held kept (g .path-in) long)) (omega (arith, g .loaded))
 
   the-loads : Loads ws us path d p (record { path = loadedPath; answer = On p })
   the-loads = record {

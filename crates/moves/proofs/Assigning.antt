@@ -17,17 +17,19 @@ use Rattle.workspace.specs.Layout.{tableBase}
 use Rattle.terms.specs.Table.{place, termAt, Formed, Space, Put}
 use Rattle.workspace.proofs.Frames.{same-trans, same-within}
 use Rattle.terms.proofs.Table.{term-same, formed-less}
-use Rattle.goals.specs.declared.Path.{Path}
+use Rattle.paths.specs.declared.Path.{Path}
 use Rattle.goals.specs.declared.Progress.{Progress}
 use Rattle.moves.specs.declared.assignments.Operation.{Operation}
 use Rattle.moves.specs.declared.assignments.Operation.the-variants.{Add, Subtract}
 use Rattle.moves.specs.declared.Moved.{Moved}
 use Rattle.moves.specs.declared.MovedAnswer.the-variants.{On, Refused}
-use Rattle.goals.specs.Walking.{pathOf, raisedTo, NodeIn, PathIn}
-use Rattle.moves.specs.Moves.{steppedTo, writtenTo, RoomFor, Built, Kept, Advanced, MoveJudged, combined, assignedAs, Assigns}
+use Rattle.paths.specs.Walking.{pathOf, raisedTo, NodeIn, PathIn, steppedTo, writtenTo, Kept}
+use Rattle.moves.specs.Moves.{RoomFor, Built, Advanced, MoveJudged, combined, assignedAs, Assigns}
 use Rattle.goals.proofs.Judging.{judges-none}
 use Rattle.moves.proofs.Moving.{move-on, move-refused}
-use Rattle.moves.proofs.PathLaws.{kept-same, path-held, path-equal, path-higher, path-written, written-path, path-stepped, register-term}
+use Rattle.paths.proofs.Kept.{kept-same, path-held, path-equal, register-term}
+use Rattle.paths.proofs.Walking.{path-raised}
+use Rattle.moves.proofs.PathLaws.{path-written, written-path, path-stepped}
 
 -- ---- nodes above the top
 combined-bound : (o : Operation) (s t : Term) (n : ℕ) → variableBound s ≤ n → variableBound t ≤ n → variableBound (combined o s t) ≤ n
@@ -48,7 +50,7 @@ module _ {ws us : List ℕ} {path : Path} (w : PathIn ws path) (long : length us
   put-built b u =
       let v : PathIn us path = path-held (kept-same path (w .prepared 0 .assumed .few) (u .kept)) w long in
       record {
-        path-in = path-higher v (path .top + 1) (omega arith) (rw (add-one (path .top)) (u .formed));
+        path-in = path-raised (path .top + 1) (omega arith) (rw (add-one (path .top)) (u .formed)) v;
         node-in = record { below = omega arith; bound = rw (u .is) b };
         means = u .is;
         same = u .kept;

@@ -32,10 +32,11 @@ use Rattle.annotations.specs.declared.search.Found.{Found}
 use Rattle.annotations.specs.declared.search.Found.the-variants.{At as Found-at, Nothing}
 use Rattle.claims.specs.Regions.{regionsOf, RegionWords}
 use Rattle.goals.specs.Judging.{Reached, ReachedAfter, Judges}
-use Rattle.goals.specs.Walking.{pathOf, NodeIn, PathIn, goalRoom, Going}
+use Rattle.paths.specs.Walking.{pathOf, NodeIn, PathIn, steppedTo, Kept}
+use Rattle.goals.specs.Room.{goalRoom, Going}
 use Rattle.goals.specs.Settling.{ArrivalJudged, ReturnJudged}
-use Rattle.goals.specs.Starting.{assumedPath, Assumed}
-use Rattle.goals.specs.declared.Path.{Path}
+use Rattle.blocks.specs.Starting.{assumedPath, Assumed}
+use Rattle.paths.specs.declared.Path.{Path}
 use Rattle.goals.specs.declared.Progress.{Progress}
 use Rattle.goals.specs.declared.Judged.{Judged}
 use Rattle.goals.specs.declared.Judged.the-variants.{Next as Judged-on, Refused as Judged-refused}
@@ -45,9 +46,10 @@ use Rattle.moves.specs.declared.MovedAnswer.the-variants.{On, Ended, Ref
 use Rattle.moves.specs.declared.Arrived.{Arrived}
 use Rattle.moves.specs.declared.Arrived.the-variants.{At, Nowhere}
 use Rattle.moves.specs.Setting.{Tables, TablesStand}
-use Rattle.moves.specs.Moves.{oppositeOf, steppedTo, RoomFor, Kept, Leads, MoveJudged, Moves, endedAs, ArrivedAs, ReachedThere, Arrives}
+use Rattle.moves.specs.Moves.{oppositeOf, RoomFor, Leads, MoveJudged, Moves, endedAs, ArrivedAs, ReachedThere, Arrives}
 use Rattle.moves.proofs.Moving.{move-on, move-stopped, move-ended, move-refused}
-use Rattle.moves.proofs.PathLaws.{kept-same, kept-then, node-equal, node-held, node-wider, path-equal, path-stepped, room-kept}
+use Rattle.paths.proofs.Kept.{kept-same, kept-then, node-equal, node-held, node-wider, path-equal}
+use Rattle.moves.proofs.PathLaws.{path-stepped, room-kept}
 use Rattle.moves.proofs.Standing.{placed-stands, found-inside, found-there, found-nowhere}
 
 -- ---- arrivals

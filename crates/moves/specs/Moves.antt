@@ -4,7 +4,7 @@ use mathlib.Core.Bool.{Bool, true, false}
 use mathlib.Core.Option.{Option, none, some}
 use mathlib.Core.List.{List}
 use Prim.Native.Nat.{ℕ, _+_, _*_, _≤_}
-use lib.ListN.{length, getD, set}
+use lib.ListN.{length, getD}
 use Rattle.model.specs.Term.{Term, sum, difference}
 use Rattle.model.specs.Policy.{Policy}
 use Rattle.model.specs.Package.{mostInstructions}
@@ -17,13 +17,14 @@ use Rattle.model.specs.declared.Comparison.{Comparison}
 use Rattle.model.specs.declared.Comparison.the-variants.{Equal, Unequal, Less, AtMost}
 use Rattle.model.specs.declared.Verdict.{Verdict}
 use Rattle.model.specs.declared.Refusal.the-variants.{LargeTerm}
-use Rattle.workspace.specs.Layout.{mostAssumptions, tableBase, mostTableNodes, Same, mostVariables}
+use Rattle.workspace.specs.Layout.{mostAssumptions, mostTableNodes, Same, mostVariables}
 use Rattle.terms.specs.Table.{termAt, place}
-use Rattle.assumptions.specs.Area.{slot, atomIn}
+use Rattle.assumptions.specs.Area.{atomIn}
 use Rattle.assumptions.specs.declared.Assumption.{Assumption}
 use Rattle.goals.specs.Judging.{Reached, ReachedAfter, Judges}
-use Rattle.goals.specs.Walking.{pathOf, raisedTo, NodeIn, PathIn, goalRoom}
-use Rattle.goals.specs.declared.Path.{Path}
+use Rattle.paths.specs.Walking.{pathOf, raisedTo, NodeIn, PathIn, steppedTo, writtenTo, Kept}
+use Rattle.goals.specs.Room.{goalRoom}
+use Rattle.paths.specs.declared.Path.{Path}
 use Rattle.goals.specs.declared.Progress.{Progress}
 use Rattle.goals.specs.declared.Judged.{Judged}
 use Rattle.goals.specs.declared.Judged.the-variants.{Next as JudgedNext, Refused as JudgedRefused}
@@ -35,19 +36,6 @@ use Rattle.moves.specs.declared.MovedAnswer.the-variants.{On, Ended, Ref
 use Rattle.moves.specs.declared.Arrived.{Arrived}
 use Rattle.moves.specs.declared.Arrived.the-variants.{At, Nowhere}
 
--- ---- paths of the code
--- one instruction more run, on to an index
-abbrev pub steppedTo : Path → (index : ℕ) → Path
-steppedTo p i = record { counter = i; steps = p .steps + 1; variables = p .variables; assumptions = p .assumptions; top = p .top; registers = p .registers }
-
--- register d is a node
-abbrev pub writtenTo : Path → (d node : ℕ) → Path
-writtenTo p d node = record { counter = p .counter; steps = p .steps; variables = p .variables; assumptions = p .assumptions; top = p .top; registers = set (p .registers) d node }
-
--- one variable more
-abbrev pub oneVariable : Path → Path
-oneVariable p = record { counter = p .counter; steps = p .steps; variables = p .variables + 1; assumptions = p .assumptions; top = p .top; registers = p .registers }
-
 -- ---- room
 -- the path is in the words, with room for so many instructions
 pub record RoomFor (ws : List ℕ) (path : Path) (left : ℕ) : Type 0 where
@@ -58,11 +46,6 @@ pub record RoomFor (ws : List ℕ) (path : Path) (left : ℕ) : Type 0 where
   pub loaded : path .variables + left ≤ mostVariables
   pub run : path .steps + left ≤ mostInstructions
   pub within : path .counter + left ≤ mostInstructions
-
--- the words below the path's next assumption, and its nodes, are as they were
-pub record Kept (ws us : List ℕ) (path : Path) : Type 0 where
-  pub low : Same 0 (slot (path .assumptions)) ws us
-  pub table : Same tableBase (place (path .top)) ws us
 
 -- so many nodes are put above the path's top, and `node` of them has the term t
 pub record Built (ws us : List ℕ) (path : Path) (count node : ℕ) (t : Term) : Type 0 where

@@ -1,19 +1,19 @@
 // Loads and stores: the address is a term above the path's top, forgotten once its goal is derived.
 use crate::Moved;
 use crate::MovedAnswer;
-use crate::paths;
+use crate::assignments;
 use claims::Claim;
 use goals;
 use goals::Judged;
-use goals::Path;
 use goals::Progress;
+use paths::Path;
 ghost use mathlib.Core.List.{[], _∷_};
 ghost use Prim.Native.Nat.{_<_};
 ghost use Rattle.model.specs.Goals.{addressTerm, goalOf, readable, writable, goes, onward, loading};
 ghost use Rattle.model.specs.Expression.{registerCount};
 ghost use Rattle.claims.specs.Regions.{regionsOf, RegionWords};
 ghost use Rattle.goals.specs.Judging.{Reached};
-ghost use Rattle.goals.specs.Walking.{pathOf};
+ghost use Rattle.paths.specs.Walking.{pathOf};
 ghost use Rattle.moves.specs.Moves.{RoomFor, Accesses, Loads};
 
 // Register d is the next variable.
@@ -24,7 +24,7 @@ fn loaded(ws: &mut [u32], path: Path, d: u8, progress: Progress) -> Moved
 {
     let top = path.top;
     terms::put_variable(ws, top, path.variables as u32);
-    let raised = goals::raised(path, top + 1);
+    let raised = paths::raised(path, top + 1);
     let written = paths::written(paths::with_variable(raised), d, top);
     Moved {
         path: paths::stepped(written, path.counter + 1),
@@ -51,8 +51,8 @@ pub fn load(
     ensures { λ r. ⌜ Accesses (now (ws .entry)) (now (ws .exit)) (now (bytes .entry)) (regionsOf (now (regions .entry)) count) (goes (goalOf (pathOf (now (ws .entry)) path) (readable (addressTerm (pathOf (now (ws .entry)) path) a i)) ∷ []) (onward (loading (pathOf (now (ws .entry)) path) d))) path progress r ⌝ }
 {
     let top = path.top;
-    paths::put_sum_with(ws, path, a, i);
-    let raised = goals::raised(path, top + 2);
+    assignments::put_sum_with(ws, path, a, i);
+    let raised = paths::raised(path, top + 2);
     let judged = goals::goal(
         bytes,
         regions,
@@ -89,8 +89,8 @@ pub fn store(
     ensures { λ r. ⌜ Accesses (now (ws .entry)) (now (ws .exit)) (now (bytes .entry)) (regionsOf (now (regions .entry)) count) (goes (goalOf (pathOf (now (ws .entry)) path) (writable (addressTerm (pathOf (now (ws .entry)) path) a i)) ∷ []) (onward (pathOf (now (ws .entry)) path))) path progress r ⌝ }
 {
     let top = path.top;
-    paths::put_sum_with(ws, path, a, i);
-    let raised = goals::raised(path, top + 2);
+    assignments::put_sum_with(ws, path, a, i);
+    let raised = paths::raised(path, top + 2);
     let judged = goals::goal(
         bytes,
         regions,

@@ -1,20 +1,18 @@
 // Assignments to a register: the new term's nodes stand above the path's top.
 use crate::Moved;
 use crate::MovedAnswer;
-use crate::paths;
-use goals;
-use goals::Path;
 use goals::Progress;
 use model::Refusal;
+use paths::Path;
 ghost use mathlib.Core.Path.{_≡_};
-ghost use Prim.Native.Nat.{suc, _<_};
+ghost use Prim.Native.Nat.{suc, _+_, _<_};
 ghost use lib.Dec.{leb};
 ghost use Rattle.model.specs.Term.{constant, sum, size};
 ghost use Rattle.model.specs.Goals.{termOf, mostTermNodes};
 ghost use Rattle.model.specs.Expression.{registerCount};
 ghost use Rattle.model.specs.Package.{mostInstructions};
 ghost use Rattle.terms.specs.Table.{termAt, Formed};
-ghost use Rattle.goals.specs.Walking.{pathOf};
+ghost use Rattle.paths.specs.Walking.{pathOf};
 ghost use Rattle.moves.specs.Moves.{RoomFor, Built, combined, assignedAs, Assigns};
 
 // The operations on two registers.
@@ -50,7 +48,7 @@ pub fn set(ws: &mut [u32], path: Path, d: u8, i: u32, progress: Progress) -> Mov
 {
     let top = path.top;
     terms::put_constant(ws, top, i);
-    assign(ws, goals::raised(path, top + 1), d, top, progress)
+    assign(ws, paths::raised(path, top + 1), d, top, progress)
 }
 
 // Puts the sum or the difference of the terms of registers a and b above the path's top.
@@ -84,7 +82,18 @@ pub fn combine(
 {
     let top = path.top;
     put_combined(ws, path, operation, a, b);
-    assign(ws, goals::raised(path, top + 1), d, top, progress)
+    assign(ws, paths::raised(path, top + 1), d, top, progress)
+}
+
+// Puts a constant i and the sum of register a's term with it above the path's top.
+pub fn put_sum_with(ws: &mut [u32], path: Path, a: u8, i: u32)
+    requires { ⌜ a < registerCount ⌝ }
+    requires { ⌜ RoomFor (now ws) path 1 ⌝ }
+    ensures { λ _. ⌜ Built (now (ws .entry)) (now (ws .exit)) path 2 (path .top + 1) (sum (termOf (pathOf (now (ws .entry)) path) a) (constant i)) ⌝ }
+{
+    let top = path.top;
+    terms::put_constant(ws, top, i);
+    terms::put_sum(ws, top + 1, paths::node(path, a), top);
 }
 
 // d := a + i
@@ -94,6 +103,6 @@ pub fn add_immediate(ws: &mut [u32], path: Path, d: u8, a: u8, i: u32, progress:
     ensures { λ r. ⌜ Assigns (now (ws .entry)) (now (ws .exit)) path d (sum (termOf (pathOf (now (ws .entry)) path) a) (constant i)) progress r ⌝ }
 {
     let top = path.top;
-    paths::put_sum_with(ws, path, a, i);
-    assign(ws, goals::raised(path, top + 2), d, top + 1, progress)
+    put_sum_with(ws, path, a, i);
+    assign(ws, paths::raised(path, top + 2), d, top + 1, progress)
 }

@@ -2,14 +2,13 @@
 pub mod accesses;
 pub mod assignments;
 pub mod jumps;
-pub mod paths;
 pub mod regions;
 
 use goals::Judged;
-use goals::Path;
 use goals::Progress;
 use model::Header;
 use model::Refusal;
+use paths::Path;
 use policy::Policy;
 
 // What stays fixed: the policy, the package's header, and where the proof starts.

@@ -1,4 +1,5 @@
 // A rule read from the proof: its number, its argument, and the next position.
+use limits::REGISTERS;
 use model::Refusal;
 use term_reader;
 use term_reader::Parse;
@@ -30,6 +31,9 @@ pub enum Opened {
     },
     Refused(Refusal),
 }
+
+// registerNodes: each register's node where it is its own variable.
+pub const REGISTER_NODES: [u32; REGISTERS] = [0, 1, 2, 3, 4, 5, 6, 7, 8, 9, 10, 11, 12, 13, 14, 15];
 
 // What stands after each rule byte, in the order of the rules.
 const FORMATS: [u8; 25] = [
@@ -84,13 +88,6 @@ fn form_of(number: usize) -> Form
     }
 }
 
-// A byte as a rule's or a region's number.
-fn wide(x: u8) -> usize
-    ensures { λ r. ⌜ r ≡ x ⌝ }
-{
-    x as usize
-}
-
 // Why an argument that is no term is refused.
 fn refusal(answer: Parse, size: usize) -> Refusal
     ensures { λ r. ⌜ r ≡ refusalOf answer size ⌝ }
@@ -129,7 +126,7 @@ fn with_region(bytes: &[u8], number: usize, at: usize, top: usize) -> Opened
     }
     Opened::Rule {
         number,
-        value: wide(bytes[at + 1]),
+        value: fields::wide_byte(bytes[at + 1]),
         next: at + 2,
         top,
     }
@@ -149,7 +146,7 @@ fn with_argument(
     ensures { λ r. ⌜ Opens (now (bytes .entry)) (now (ws .entry)) (now (ws .exit)) variables top at r ⌝ }
 {
     let size = bytes.len();
-    let registers = [0, 1, 2, 3, 4, 5, 6, 7, 8, 9, 10, 11, 12, 13, 14, 15];
+    let registers = REGISTER_NODES;
     let answer = term_reader::expression(bytes, ws, size, variables, registers, at + 1, top);
     let Parse::Term {
         number: value,
@@ -177,7 +174,7 @@ pub fn read_rule(bytes: &[u8], ws: &mut [u32], variables: usize, top: usize, at:
     if size <= at {
         return Opened::Refused(Refusal::ProofExhausted(size));
     }
-    let number = wide(bytes[at]);
+    let number = fields::wide_byte(bytes[at]);
     match form_of(number) {
         Form::Plain => Opened::Rule {
             number,

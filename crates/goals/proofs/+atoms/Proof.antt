@@ -7,12 +7,12 @@ use Rattle.goals.proofs.atoms.Reads as it
 use Rattle.goals.proofs.atoms.Kinds as kinds
 use Rattle.goals.proofs.+atoms.Lts-atoms as lts
 use Rattle.goals.proofs.goal.Reads as goal-reads
-use Rattle.goals.proofs.raised.Reads as raised-reads
+use Rattle.paths.proofs.raised.Reads as raised-reads
 use Rattle.term_reader.proofs.atom.Reads as atom-reads
 use Rattle.term_reader.specs.Reader.{atomNodes}
 use Rattle.goals.proofs.+atoms.{statement}
 use Rattle.goals.proofs.+atoms.Tie.{close}
-use Rattle.goals.proofs.Walking.{path-ready}
+use Rattle.paths.proofs.Walking.{path-ready}
 use Rattle.goals.proofs.Settling.{atom-asks, atoms-none, atoms-unread, atoms-stopped, others-ask, atoms-more}
 
 abbrev μ : Measures 4 kinds.ps ℕ

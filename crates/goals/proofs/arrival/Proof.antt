@@ -1,4 +1,4 @@
-use Rattle.goals.proofs.Walking.{path-ready}
+use Rattle.paths.proofs.Walking.{path-ready}
 use Rattle.goals.proofs.Arriving.{arrival-unread, arrival-asks, arrival-stopped, owed-asks, arrival-judged}
 use native.Mathlib.Omega.{arith}
 use borrow.Author.Needs.{needs}
@@ -24,14 +24,14 @@ returns c = arrival-unread (c .before .before .before .expression .result) (c .b
 raised-requires : tie.Need-raised-requires
 raised-requires c κs = search needs
 
-add-wide : tie.Need-add-wide
-add-wide c = search needs
+add-wide-byte : tie.Need-add-wide-byte
+add-wide-byte c = search needs
 
-shared-slice-read-wide : tie.Need-shared-slice-read-wide
-shared-slice-read-wide c = search needs
+shared-slice-read-wide-byte : tie.Need-shared-slice-read-wide-byte
+shared-slice-read-wide-byte c = search needs
 
-wide-requires : tie.Need-wide-requires
-wide-requires c κs = search needs
+wide-byte-requires : tie.Need-wide-byte-requires
+wide-byte-requires c κs = search needs
 
 atoms-requires : tie.Need-atoms-requires
 atoms-requires c κs = (c .before .before .before .before .before .before .before .before .before .before .before .before .before .before .before .pre .0 .0, arrival-asks (c .before .before .before .before .before .before .before .before .before .before .before .before .before .before .before .args .at) (c .before .before .before .before .before .before .before .before .before .before .before .before .before .before .before .pre .1 .0) (c .before .before .before .before .before .before .before .before .before .before .before .before .before .before .before .pre .1 .1) (c .before .before .before .before .before .before .before .before .before .expression .kept .1 .0) (c .before .before .before .before .before .before .before .before .before .expression .ensures) (c .before .before .before .before .before .read .given .1) (c .before .before .before .raised .ensures))
@@ -46,19 +46,19 @@ same-length-2 : tie.Need-same-length-2
 same-length-2 c = search needs
 
 returns-2 : tie.Need-returns-2
-returns-2 c = arrival-stopped (c .before .before .before .before .before .before .before .before .before .before .before .before .before .before .before .before .before .before .before .before .args .at) (c .before .before .before .before .before .before .before .before .before .before .before .before .before .before .before .before .before .before .before .before .pre .1 .0) (c .before .before .before .before .before .before .before .before .before .before .before .before .before .before .before .before .before .before .before .before .pre .1 .1) (c .before .before .before .before .before .before .before .before .before .before .before .before .before .before .expression .kept .1 .0) (c .before .before .before .before .before .before .before .before .before .before .before .before .before .before .expression .ensures) (c .before .before .before .before .before .before .before .before .before .before .read .given .1) (c .before .before .before .before .before .before .before .before .raised .ensures) (c .before .before .before .before .before .before .wide .ensures) (c .before .before .before .before .atoms .ensures) (c .enum-told .given .1)
+returns-2 c = arrival-stopped (c .before .before .before .before .before .before .before .before .before .before .before .before .before .before .before .before .before .before .before .before .args .at) (c .before .before .before .before .before .before .before .before .before .before .before .before .before .before .before .before .before .before .before .before .pre .1 .0) (c .before .before .before .before .before .before .before .before .before .before .before .before .before .before .before .before .before .before .before .before .pre .1 .1) (c .before .before .before .before .before .before .before .before .before .before .before .before .before .before .expression .kept .1 .0) (c .before .before .before .before .before .before .before .before .before .before .before .before .before .before .expression .ensures) (c .before .before .before .before .before .before .before .before .before .before .read .given .1) (c .before .before .before .before .before .before .before .before .raised .ensures) (c .before .before .before .before .before .before .wide-byte .ensures) (c .before .before .before .before .atoms .ensures) (c .enum-told .given .1)
 
-wide-requires-2 : tie.Need-wide-requires-2
-wide-requires-2 c κs = search needs
+wide-requires : tie.Need-wide-requires
+wide-requires c κs = search needs
 
 credits-requires : tie.Need-credits-requires
-credits-requires c κs = rw (c .wide2 .ensures) (owed-asks (c .before .before .before .before .before .before .before .before .before .before .before .before .before .before .before .before .before .before .before .before .before .before .before .args .at) (c .before .before .before .before .before .before .before .before .before .before .before .before .before .before .before .before .before .before .before .before .before .before .before .pre .1 .0) (c .before .before .before .before .before .before .before .before .before .before .before .before .before .before .before .before .before .before .before .before .before .before .before .pre .1 .1) (c .before .before .before .before .before .before .before .before .before .before .before .before .before .before .before .before .before .expression .kept .1 .0) (c .before .before .before .before .before .before .before .before .before .before .before .before .before .before .before .before .before .expression .ensures) (c .before .before .before .before .before .before .before .before .before .before .before .before .before .read .given .1) (c .before .before .before .before .before .before .before .before .before .before .before .raised .ensures) (c .before .before .before .before .before .before .before .before .before .wide .ensures) (c .before .before .before .before .before .before .before .atoms .ensures) (c .before .before .before .first .given .1) (c .before .before .before .before .before .before .before .atoms .kept .1 .1 .1 .1 .1 .1 .1 .0))
+credits-requires c κs = rw (c .wide .ensures) (owed-asks (c .before .before .before .before .before .before .before .before .before .before .before .before .before .before .before .before .before .before .before .before .before .before .before .args .at) (c .before .before .before .before .before .before .before .before .before .before .before .before .before .before .before .before .before .before .before .before .before .before .before .pre .1 .0) (c .before .before .before .before .before .before .before .before .before .before .before .before .before .before .before .before .before .before .before .before .before .before .before .pre .1 .1) (c .before .before .before .before .before .before .before .before .before .before .before .before .before .before .before .before .before .expression .kept .1 .0) (c .before .before .before .before .before .before .before .before .before .before .before .before .before .before .before .before .before .expression .ensures) (c .before .before .before .before .before .before .before .before .before .before .before .before .before .read .given .1) (c .before .before .before .before .before .before .before .before .before .before .before .raised .ensures) (c .before .before .before .before .before .before .before .before .before .wide-byte .ensures) (c .before .before .before .before .before .before .before .atoms .ensures) (c .before .before .before .first .given .1) (c .before .before .before .before .before .before .before .atoms .kept .1 .1 .1 .1 .1 .1 .1 .0))
 
 same-length-3 : tie.Need-same-length-3
 same-length-3 c = search needs
 
 returns-3 : tie.Need-returns-3
-returns-3 c = arrival-judged (c .before .before .before .before .before .before .before .before .before .before .before .before .before .before .before .before .before .before .before .before .before .before .before .before .before .before .args .at) (c .before .before .before .before .before .before .before .before .before .before .before .before .before .before .before .before .before .before .before .before .before .before .before .before .before .before .pre .1 .0) (c .before .before .before .before .before .before .before .before .before .before .before .before .before .before .before .before .before .before .before .before .before .before .before .before .before .before .pre .1 .1) (c .before .before .before .before .before .before .before .before .before .before .before .before .before .before .before .before .before .before .before .before .expression .kept .1 .0) (c .before .before .before .before .before .before .before .before .before .before .before .before .before .before .before .before .before .before .before .before .expression .ensures) (c .before .before .before .before .before .before .before .before .before .before .before .before .before .before .before .before .read .given .1) (c .before .before .before .before .before .before .before .before .before .before .before .before .before .before .raised .ensures) (c .before .before .before .before .before .before .before .before .before .before .before .before .wide .ensures) (c .before .before .before .before .before .before .before .before .before .before .atoms .ensures) (c .before .before .before .before .before .before .first .given .1) (c .before .before .before .before .before .before .before .before .before .before .atoms .kept .1 .1 .1 .1 .1 .1 .1 .0) (rw (← c .before .before .before .wide2 .ensures) (c .before .before .credits .ensures))
+returns-3 c = arrival-judged (c .before .before .before .before .before .before .before .before .before .before .before .before .before .before .before .before .before .before .before .before .before .before .before .before .before .before .args .at) (c .before .before .before .before .before .before .before .before .before .before .before .before .before .before .before .before .before .before .before .before .before .before .before .before .before .before .pre .1 .0) (c .before .before .before .before .before .before .before .before .before .before .before .before .before .before .before .before .before .before .before .before .before .before .before .before .before .before .pre .1 .1) (c .before .before .before .before .before .before .before .before .before .before .before .before .before .before .before .before .before .before .before .before .expression .kept .1 .0) (c .before .before .before .before .before .before .before .before .before .before .before .before .before .before .before .before .before .before .before .before .expression .ensures) (c .before .before .before .before .before .before .before .before .before .before .before .before .before .before .before .before .read .given .1) (c .before .before .before .before .before .before .before .before .before .before .before .before .before .before .raised .ensures) (c .before .before .before .before .before .before .before .before .before .before .before .before .wide-byte .ensures) (c .before .before .before .before .before .before .before .before .before .before .atoms .ensures) (c .before .before .before .before .before .before .first .given .1) (c .before .before .before .before .before .before .before .before .before .before .atoms .kept .1 .1 .1 .1 .1 .1 .1 .0) (rw (← c .before .before .before .wide .ensures) (c .before .before .credits .ensures))
 
 pub arrival-spec : {M : Type 1} → statement M
 arrival-spec =
@@ -70,15 +70,15 @@ arrival-spec =
     same-length
     returns
     raised-requires
-    add-wide
-    shared-slice-read-wide
-    wide-requires
+    add-wide-byte
+    shared-slice-read-wide-byte
+    wide-byte-requires
     atoms-requires
     enum-known-first
     enum-told
     same-length-2
     returns-2
-    wide-requires-2
+    wide-requires
     credits-requires
     same-length-3
     returns-3)

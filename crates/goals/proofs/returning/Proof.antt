@@ -2,8 +2,8 @@ use native.Mathlib.Omega.{arith}
 use borrow.Author.Needs.{needs}
 use Rattle.goals.proofs.returning.Statement.{statement}
 use Rattle.goals.proofs.returning.Tie as tie
-use Rattle.goals.specs.Walking.{atomRoom}
-use Rattle.goals.proofs.Walking.{going-fewer}
+use Rattle.goals.specs.Room.{atomRoom}
+use Rattle.goals.proofs.Room.{going-fewer}
 use Rattle.goals.proofs.Arriving.{put-asks, covers-asks, covers, returning-stopped, returning-asks, returning-judged}
 
 atoms-requires : tie.Need-atoms-requires

@@ -9,22 +9,22 @@ sub-if1 c = search needs
 returns : tie.Need-returns
 returns c = λ ws f variables. opens-region-missing f (c .before .before .pre) (c .if1 .taken)
 
-add-wide : tie.Need-add-wide
-add-wide c = search needs
+add-wide-byte : tie.Need-add-wide-byte
+add-wide-byte c = search needs
 
-shared-slice-read-wide : tie.Need-shared-slice-read-wide
-shared-slice-read-wide c = search needs
+shared-slice-read-wide-byte : tie.Need-shared-slice-read-wide-byte
+shared-slice-read-wide-byte c = search needs
 
-wide-requires : tie.Need-wide-requires
-wide-requires c κs = search needs
+wide-byte-requires : tie.Need-wide-byte-requires
+wide-byte-requires c κs = search needs
 
 add-t12 : tie.Need-add-t12
 add-t12 c = search needs
 
 returns-2 : tie.Need-returns-2
-returns-2 c = λ ws f variables. opens-region f (c .before .before .before .before .pre) (c .before .before .if1 .left) (c .wide .ensures)
+returns-2 c = λ ws f variables. opens-region f (c .before .before .before .before .pre) (c .before .before .if1 .left) (c .wide-byte .ensures)
 
 pub with-region-spec : {M : Type 1} → statement M
 with-region-spec =
     tie.close
-    (tie.spec sub-if1 returns add-wide shared-slice-read-wide wide-requires add-t12 returns-2)
+    (tie.spec sub-if1 returns add-wide-byte shared-slice-read-wide-byte wide-byte-requires add-t12 returns-2)

@@ -26,20 +26,20 @@ sub-if3 c = search needs
 returns-3 : tie.Need-returns-3
 returns-3 c = no-count _ _ _ _ _ (c .before .before .before .before .before .proof-start .ensures) (omega arith) _ (c .before .before .before .half .ensures .0) (c .before .if2 .left) (omega arith)
 
-add-count-of : tie.Need-add-count-of
-add-count-of c = search needs
+add-wide-byte : tie.Need-add-wide-byte
+add-wide-byte c = search needs
 
-shared-slice-read-count-of : tie.Need-shared-slice-read-count-of
-shared-slice-read-count-of c = search needs
+shared-slice-read-wide-byte : tie.Need-shared-slice-read-wide-byte
+shared-slice-read-wide-byte c = search needs
 
-count-of-requires : tie.Need-count-of-requires
-count-of-requires c κs = search needs
+wide-byte-requires : tie.Need-wide-byte-requires
+wide-byte-requires c κs = search needs
 
 add-t21 : tie.Need-add-t21
 add-t21 c = search needs
 
 returns-4 : tie.Need-returns-4
-returns-4 c = bad-count _ _ _ _ _ (c .before .before .before .before .before .before .before .before .proof-start .ensures) (omega arith) _ (c .before .before .before .before .before .before .half .ensures .0) (c .before .before .before .before .if2 .left) (omega arith) _ (c .before .count-of .ensures) (c .if4 .taken)
+returns-4 c = bad-count _ _ _ _ _ (c .before .before .before .before .before .before .before .before .proof-start .ensures) (omega arith) _ (c .before .before .before .before .before .before .half .ensures .0) (c .before .before .before .before .if2 .left) (omega arith) _ (c .before .wide-byte .ensures) (c .if4 .taken)
 
 add-body : tie.Need-add-body
 add-body c = search needs
@@ -57,13 +57,13 @@ enum-known-rest-2 : tie.Need-enum-known-rest-2
 enum-known-rest-2 c = search needs
 
 returns-5 : tie.Need-returns-5
-returns-5 c = whole _ _ _ _ _ (c .before .before .before .before .before .before .before .before .before .before .before .before .proof-start .ensures) (omega arith) _ (c .before .before .before .before .before .before .before .before .before .before .half .ensures .0) (c .before .before .before .before .before .before .before .before .if2 .left) (omega arith) _ (c .before .before .before .before .before .count-of .ensures) (c .before .before .before .before .if4 .left) _ (c .before .before .before .body .ensures) _ (c .before .rest .given .1)
+returns-5 c = whole _ _ _ _ _ (c .before .before .before .before .before .before .before .before .before .before .before .before .proof-start .ensures) (omega arith) _ (c .before .before .before .before .before .before .before .before .before .before .half .ensures .0) (c .before .before .before .before .before .before .before .before .if2 .left) (omega arith) _ (c .before .before .before .before .before .wide-byte .ensures) (c .before .before .before .before .if4 .left) _ (c .before .before .before .body .ensures) _ (c .before .rest .given .1)
 
 returns-6 : tie.Need-returns-6
-returns-6 c = no-body _ _ _ _ _ (c .before .before .before .before .before .before .before .before .before .before .before .proof-start .ensures) (omega arith) _ (c .before .before .before .before .before .before .before .before .before .half .ensures .0) (c .before .before .before .before .before .before .before .if2 .left) (omega arith) _ (c .before .before .before .before .count-of .ensures) (c .before .before .before .if4 .left) _ (c .before .before .body .ensures) (c .enum-told .given .1)
+returns-6 c = no-body _ _ _ _ _ (c .before .before .before .before .before .before .before .before .before .before .before .proof-start .ensures) (omega arith) _ (c .before .before .before .before .before .before .before .before .before .half .ensures .0) (c .before .before .before .before .before .before .before .if2 .left) (omega arith) _ (c .before .before .before .before .wide-byte .ensures) (c .before .before .before .if4 .left) _ (c .before .before .body .ensures) (c .enum-told .given .1)
 
 returns-7 : tie.Need-returns-7
-returns-7 c = bad-body _ _ _ _ _ (c .before .before .before .before .before .before .before .before .before .before .before .before .proof-start .ensures) (omega arith) _ (c .before .before .before .before .before .before .before .before .before .before .half .ensures .0) (c .before .before .before .before .before .before .before .before .if2 .left) (omega arith) _ (c .before .before .before .before .before .count-of .ensures) (c .before .before .before .before .if4 .left) _ (c .before .before .before .body .ensures) _ (c .before .rest2 .given .1)
+returns-7 c = bad-body _ _ _ _ _ (c .before .before .before .before .before .before .before .before .before .before .before .before .proof-start .ensures) (omega arith) _ (c .before .before .before .before .before .before .before .before .before .before .half .ensures .0) (c .before .before .before .before .before .before .before .before .if2 .left) (omega arith) _ (c .before .before .before .before .before .wide-byte .ensures) (c .before .before .before .before .if4 .left) _ (c .before .before .before .body .ensures) _ (c .before .rest2 .given .1)
 
 pub annotation-spec : {M : Type 1} → statement M
 annotation-spec =
@@ -76,9 +76,9 @@ annotation-spec =
     returns-2
     sub-if3
     returns-3
-    add-count-of
-    shared-slice-read-count-of
-    count-of-requires
+    add-wide-byte
+    shared-slice-read-wide-byte
+    wide-byte-requires
     add-t21
     returns-4
     add-body

@@ -1,0 +1,19 @@
+use borrow.Author.Needs.{needs}
+use Rattle.blocks.proofs.assuming.Statement.{statement}
+use Rattle.blocks.proofs.assuming.Tie as tie
+use Rattle.blocks.proofs.Starting.{assumed}
+
+push-requires : tie.Need-push-requires
+push-requires c κs = (c .before .before .pre .1 .0, (c .before .before .pre .0 .prepared 0 .assumed, c .before .before .pre .1 .1))
+
+add-path : tie.Need-add-path
+add-path c = search needs
+
+same-length : tie.Need-same-length
+same-length c = search needs
+
+returns : tie.Need-returns
+returns c = assumed (c .before .before .before .before .before .before .pre .0) (c .before .before .before .before .before .before .pre .1 .0 .0) (c .before .before .before .push .ensures) (c .before .before .before .push .kept .0)
+
+pub assuming-spec : {M : Type 1} → statement M
+assuming-spec = tie.close (tie.spec push-requires add-path same-length returns)

@@ -1,0 +1,4 @@
+pub mod Kept
+pub mod Walking
+pub mod Reading
+pub mod Found
