@@ -1,8 +1,8 @@
 -- Laws of plans, and of the ways in which a rule does not fit. Assumes nothing.
-use mathlib.Core.Path.{_≡_, refl, sym, subst, _∙_, ap}
+use mathlib.Core.Path.{_≡_, refl, sym, subst, _∙_, ap, ap₂}
 use mathlib.Core.Bool.{Bool, true, false}
 use mathlib.Core.List.{List, _∷_, []}
-use Prim.Native.Nat.{ℕ, suc, _+_, _<_, zero}
+use Prim.Native.Nat.{ℕ, zero, suc, _+_, _-_, _<_}
 use native.Mathlib.Omega.{arith}
 use lib.ListN.{length}
 use Rattle.model.specs.Result.{Fit, misfit, stop, value, _>>=_, check}
@@ -18,7 +18,7 @@ use Rattle.workspace.proofs.Frames.{same-refl, same-trans, same-within}
 use Rattle.terms.proofs.Table.{term-same, formed-less}
 use Rattle.claims.proofs.PartLaws.{neither, NotAtom}
 use Rattle.claims.specs.Parts.{claimOf, ClaimBelow, Sides, Operands, FourOperands}
-use Rattle.claims.specs.Plan.{premise, blank, plan, atomIn, Grows, Planned, Anywhere, asks, always, premiseAt, premiseClaim, PremiseBelow}
+use Rattle.claims.specs.Plan.{premise, blank, plan, atomIn, Grows, Planned, Anywhere, asks, always, premiseAt, premisesFrom, premisesOf, restOf, PremiseBelow}
 use Rattle.claims.specs.declared.Claim.{Claim}
 use Rattle.claims.specs.declared.Claim.the-variants.{Atom as AtomClaim, Readable, Writable}
 use Rattle.claims.specs.declared.Premise.{Premise}
@@ -147,11 +147,17 @@ says-as q k = record {
   below = q .below;
 }
 
--- ---- premise k, as a claim
-pub premise-is : (p : Plan) {k : ℕ} (i : ℕ) → k ≡ i → premiseClaim (premiseAt p i) ≡ premiseClaim (premiseAt p k)
-premise-is p i e = ap (λ j. premiseClaim (premiseAt p j)) (sym e)
+-- ---- the premises after the first
+pub rest-at : (p : Plan) (k : ℕ) → premiseAt (restOf p) k ≡ premiseAt p (suc k)
+rest-at p zero = refl
+rest-at p (suc zero) = refl
+rest-at p (suc (suc k)) = refl
 
-pub premise-last : (p : Plan) (k : ℕ) → (k ≡ 0 → ⊥) → (k ≡ 1 → ⊥) → premiseClaim (p .third) ≡ premiseClaim (premiseAt p k)
-premise-last p zero a b = absurd (a refl)
-premise-last p (suc zero) a b = absurd (b refl)
-premise-last p (suc (suc k)) a b = refl
+rest-from : (us : List ℕ) (p : Plan) (n k : ℕ) → premisesFrom us (restOf p) n k ≡ premisesFrom us p n (suc k)
+rest-from us p zero k = refl
+rest-from us p (suc n) k = ap₂ (λ (a : Premise) (l : List Atom). atomIn us a ∷ l) (rest-at p k) (rest-from us p n (suc k))
+
+pub first-and-rest : (us : List ℕ) (p : Plan) → 0 < p .count → premisesOf us p ≡ atomIn us (p .first) ∷ premisesOf us (restOf p)
+first-and-rest us p h =
+    let e : p .count ≡ suc (p .count - 1) = omega arith in
+    ap (λ n. premisesFrom us p n 0) e ∙ ap (λ (l : List Atom). atomIn us (p .first) ∷ l) (sym (rest-from us p (p .count - 1) 0))

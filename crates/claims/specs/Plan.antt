@@ -2,7 +2,7 @@
 use mathlib.Core.Path.{_≡_}
 use mathlib.Core.Bool.{Bool, true, false}
 use mathlib.Core.List.{List, _∷_, []}
-use Prim.Native.Nat.{ℕ, zero, suc, _+_, _<_, _≤_}
+use Prim.Native.Nat.{ℕ, zero, suc, _+_, _-_, _<_, _≤_}
 use Rattle.model.specs.Result.{Fit, misfit, stop, value}
 use Rattle.model.specs.Atom.{Atom}
 use Rattle.model.specs.Policy.{Policy}
@@ -28,6 +28,10 @@ blank = premise Equal 0 0
 
 abbrev pub plan : Bool → (count : ℕ) → (first second third : Premise) → (top : ℕ) → Plan
 plan fits count first second third top = record { fits = fits; count = count; first = first; second = second; third = third; top = top }
+
+-- the plan without its first premise
+abbrev pub restOf : Plan → Plan
+restOf p = plan (p .fits) (p .count - 1) (p .second) (p .third) (p .third) (p .top)
 
 -- premise k, of three
 abbrev pub premiseAt : Plan → (k : ℕ) → Premise

@@ -5,7 +5,8 @@ use crate::Premise;
 use model::Comparison;
 ghost use mathlib.Core.Path.{_≡_};
 ghost use mathlib.Core.Bool.{true, false};
-ghost use Rattle.claims.specs.Plan.{blank, plan, premiseAt, premiseClaim};
+ghost use Prim.Native.Nat.{_<_};
+ghost use Rattle.claims.specs.Plan.{blank, plan, premiseClaim, restOf};
 
 // A comparison of two nodes.
 pub fn compared(kind: Comparison, left: usize, right: usize) -> Premise
@@ -82,15 +83,28 @@ pub fn three(a: Premise, b: Premise, c: Premise, top: usize) -> Plan
     with_premises(3, a, b, c, top)
 }
 
-// Premise k of a plan, as a claim.
-pub fn premise(plan: Plan, k: usize) -> Claim
-    ensures { λ r. ⌜ r ≡ premiseClaim (premiseAt plan k) ⌝ }
+// The first premise of a plan, as a claim.
+pub fn first(plan: Plan) -> Claim
+    ensures { λ r. ⌜ r ≡ premiseClaim (plan .first) ⌝ }
 {
-    let chosen = match k {
-        0 => plan.first,
-        1 => plan.second,
-        _ => plan.third,
-    };
-    let kind = chosen.kind;
-    Claim::Atom(kind, chosen.left, chosen.right)
+    let premise = plan.first;
+    let kind = premise.kind;
+    Claim::Atom(kind, premise.left, premise.right)
+}
+
+// The plan without its first premise.
+pub fn rest(plan: Plan) -> Plan
+    requires { ⌜ 0 < plan .count ⌝ }
+    ensures { λ r. ⌜ r ≡ restOf plan ⌝ }
+{
+    let second = plan.second;
+    let third = plan.third;
+    Plan {
+        fits: plan.fits,
+        count: plan.count - 1,
+        first: second,
+        second: third,
+        third,
+        top: plan.top,
+    }
 }

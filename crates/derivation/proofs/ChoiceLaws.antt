@@ -3,6 +3,7 @@ use mathlib.Core.Path.{_≡_, refl, sym, ap, _∙_}
 use mathlib.Core.List.{List}
 use Prim.Native.Nat.{ℕ, zero, suc, _-_, _<_, _≤_}
 use native.Mathlib.Omega.{arith}
+use native.Mathlib.Decide.{ℕ-discrete}
 use lib.ListN.{getElem?}
 use Rattle.model.specs.Result.{Fit, _>>=_, check}
 use Rattle.model.specs.Atom.{Atom}
@@ -46,14 +47,22 @@ module _ {ws words : List ℕ} {scope : Scope} {number v : ℕ} {claim : Claim} 
 
 -- rules 22 and 23 are one rule for two rights
 module _ (policy : Policy) (g : Goal) (j : ℕ) where
-  pub reads-region : (c : Claimed) → regionAsks 1 j c policy g ≡ premises policy g (in-readable-region j) c
+  reads-region : (c : Claimed) → regionAsks 1 j c policy g ≡ premises policy g (in-readable-region j) c
   unfolding regionAsks premises readableOf _>>=_ check
   reads-region (atom a) = refl
   reads-region (readable t) = refl
   reads-region (writable t) = refl
 
-  pub writes-region : (c : Claimed) → regionAsks 2 j c policy g ≡ premises policy g (in-writable-region j) c
+  writes-region : (c : Claimed) → regionAsks 2 j c policy g ≡ premises policy g (in-writable-region j) c
   unfolding regionAsks premises writableOf _>>=_ check
   writes-region (atom a) = refl
   writes-region (readable t) = refl
   writes-region (writable t) = refl
+
+  pub asks-region : {right number : ℕ} (ws : List ℕ) (c : Claimed) → (22 ≤ number) × (number < 24) → right ≡ number - 21 → regionAsks right j c policy g ≡ premises policy g (ruleOf ws number j) c
+  unfolding ruleOf
+  asks-region {right} {number} ws c h e = go (ℕ-discrete number 22)
+    where
+      go : Dec (number ≡ 22) → regionAsks right j c policy g ≡ premises policy g (ruleOf ws number j) c
+      go (yes d) = let r : right ≡ 1 = omega arith in rw (r, d) (reads-region c)
+      go (no d) = let r : right ≡ 2 = omega arith in let n : number ≡ 23 = omega arith in rw (r, n) (writes-region c)

@@ -16,7 +16,8 @@ use Rattle.workspace.specs.Layout.{Same}
 use Rattle.terms.specs.Table.{place, Space}
 use Rattle.workspace.proofs.Frames.{same-refl, same-trans, same-within}
 use Rattle.claims.specs.Parts.{claimOf}
-use Rattle.claims.specs.Plan.{atomIn, premisesFrom, premiseAt, premiseClaim, premisesOf}
+use Rattle.claims.specs.Plan.{atomIn, restOf, premiseAt, premiseClaim, premisesFrom, premisesOf}
+use Rattle.claims.proofs.PlanLaws.{rest-at, first-and-rest}
 use Rattle.claims.specs.Regions.{RegionWords}
 use Rattle.derivation.specs.Deriving.{Judged, Prepared, Derivable, applied, PremiseWithin, Applies, derivedOf, Onward, Derives, levelRoom}
 use Rattle.claims.specs.declared.Claim.{Claim}
@@ -68,32 +69,30 @@ module _ (bytes : List ℕ) (policy : Policy) (g : Goal) where
   unfolding deriveAll
   first-derived levels a rest p e = rw e
 
--- ---- the premises of a plan, one after the other
-one-after : (us : List ℕ) (p : Plan) (n k : ℕ) → k < n → premisesFrom us p (n - k) k ≡ atomIn us (premiseAt p k) ∷ premisesFrom us p (n - suc k) (suc k)
-one-after us p n k h = let e : n - k ≡ suc (n - suc k) = omega arith in ap (λ i. premisesFrom us p i k) e
-
--- ---- the premises that are left
--- At the words us: the plan's premises from premise k on, from position `reached` on; the words vs had the plan's table too.
-pub record Running (bytes words vs us : List ℕ) (scope : Scope) (levels : ℕ) (p : Plan) (next reached k : ℕ) : Type 0 where
+-- ---- the premises that are due
+-- At the words us: the premises of the plan `due`, from position `reached` on, are what is left of those of the plan p; the words vs had
+-- the plan's table too.
+pub record Running (bytes words vs us : List ℕ) (scope : Scope) (levels : ℕ) (p : Plan) (next : ℕ) (due : Plan) (reached : ℕ) : Type 0 where
   pub so-far : (policy : Policy) (g : Goal) → Judged words vs scope policy g
-      → derives bytes policy g (levels - 1) (premisesFrom vs p (p .count - k) k) reached ≡ derives bytes policy g (levels - 1) (premisesOf vs p) next
-  pub before : Prepared vs (p .top) scope
-  pub same : Same 0 (place (p .top)) vs us
+      → derives bytes policy g (levels - 1) (premisesOf vs due) reached ≡ derives bytes policy g (levels - 1) (premisesOf vs p) next
+  pub one-top : due .top ≡ p .top
+  pub before : Prepared vs (due .top) scope
+  pub same : Same 0 (place (due .top)) vs us
   pub long : length us ≡ length vs
   pub regions : RegionWords words (scope .regions)
-  pub space : Space vs (p .top) (levelRoom * (levels - 1))
-  pub within : (i : ℕ) → i < p .count → PremiseWithin vs (p .top) (scope .variables) (premiseAt p i)
+  pub space : Space vs (due .top) (levelRoom * (levels - 1))
+  pub within : (i : ℕ) → i < due .count → PremiseWithin vs (due .top) (scope .variables) (premiseAt due i)
   pub onward : (next ≤ reached) × (reached ≤ length bytes)
 
-module _ {bytes words vs us : List ℕ} {scope : Scope} {levels : ℕ} {p : Plan} {next reached k : ℕ} (w : Running bytes words vs us scope levels p next reached k) (more : k < p .count) {c : Claim} (e : c ≡ premiseClaim (premiseAt p k)) where
-  within : PremiseWithin vs (p .top) (scope .variables) (premiseAt p k)
-  within = w .within k more
+module _ {bytes words vs us : List ℕ} {scope : Scope} {levels : ℕ} {p : Plan} {next : ℕ} {due : Plan} {reached : ℕ} (w : Running bytes words vs us scope levels p next due reached) (more : 0 < due .count) {c : Claim} (e : c ≡ premiseClaim (due .first)) where
+  within : PremiseWithin vs (due .top) (scope .variables) (due .first)
+  within = w .within 0 more
 
-  claims : claimOf us c ≡ atom (atomIn vs (premiseAt p k))
-  claims = ap (claimOf us) e ∙ claim-kept (p .top) (premiseClaim (premiseAt p k)) (w .same) (within .below)
+  claims : claimOf us c ≡ atom (atomIn vs (due .first))
+  claims = ap (claimOf us) e ∙ claim-kept (due .top) (premiseClaim (due .first)) (w .same) (within .below)
 
-  -- what the derivation of premise k asks
-  pub premise-asks : Derivable us words scope (levels - 1) (p .top) c
+  -- what the derivation of the first premise asks
+  pub premise-asks : Derivable us words scope (levels - 1) (due .top) c
   premise-asks = record {
     prepared = prepared-kept (w .same) (w .before) (w .long);
     regions = w .regions;
@@ -102,31 +101,35 @@ module _ {bytes words vs us : List ℕ} {scope : Scope} {levels : ℕ} {p : Plan
     bounded = rw claims (within .bounded);
   }
 
-  module _ {xs : List ℕ} {r : Derived} (d : Derives bytes words us xs scope (levels - 1) (p .top) c reached r) where
+  -- one fewer is due after it
+  pub one-fewer : {rest : Plan} → rest ≡ restOf due → rest .count < due .count
+  one-fewer f = rw f (let fewer : due .count - 1 < due .count = omega arith in fewer)
+
+  module _ {xs : List ℕ} {r : Derived} (d : Derives bytes words us xs scope (levels - 1) (due .top) c reached r) where
     -- what its answer leads to
     pub followed : {q : Derived} → r ≡ q → (policy : Policy) (g : Goal) → Judged words vs scope policy g
-        → (derivedOf q >>= λ m. derives bytes policy g (levels - 1) (premisesFrom vs p (p .count - suc k) (suc k)) m) ≡ derives bytes policy g (levels - 1) (premisesOf vs p) next
+        → (derivedOf q >>= λ m. derives bytes policy g (levels - 1) (premisesOf vs (restOf due)) m) ≡ derives bytes policy g (levels - 1) (premisesOf vs p) next
     followed t policy g j =
-        first-derived bytes policy g (levels - 1) (atomIn vs (premiseAt p k)) (premisesFrom vs p (p .count - suc k) (suc k)) reached
+        first-derived bytes policy g (levels - 1) (atomIn vs (due .first)) (premisesOf vs (restOf due)) reached
         (ap derivedOf (sym t) ∙ d .answer policy g (judged-kept (w .same) (w .before) j) ∙ ap (λ a. derive bytes policy g (levels - 1) a reached) claims)
-        ∙ ap (λ l. derives bytes policy g (levels - 1) l reached) (sym (one-after vs p (p .count) k more))
+        ∙ ap (λ l. derives bytes policy g (levels - 1) l reached) (sym (first-and-rest vs due more))
         ∙ w .so-far policy g j
 
-    -- one premise fewer is left
-    pub premise-derived : {m : ℕ} → r ≡ Next m → length xs ≡ length us → Running bytes words vs xs scope levels p next m (k + 1)
+    -- the other premises are due
+    pub premise-derived : {m : ℕ} {rest : Plan} → r ≡ Next m → length xs ≡ length us → rest ≡ restOf due → Running bytes words vs xs scope levels p next rest m
     unfolding _>>=_
-    premise-derived {m} t l =
+    premise-derived {m} t l f =
         let o : Onward (length bytes) reached (Next m) = subst (Onward (length bytes) reached) t (d .onward) in
-        let one : suc k ≡ k + 1 = omega arith in
-        subst (Running bytes words vs xs scope levels p next m) one
+        subst (λ q. Running bytes words vs xs scope levels p next q m) (sym f)
         (record {
           so-far = followed t;
+          one-top = w .one-top;
           before = w .before;
           same = same-trans (w .same) (d .kept);
           long = l ∙ w .long;
           regions = w .regions;
           space = w .space;
-          within = w .within;
+          within = λ i h. rw (rest-at due i) (w .within (suc i) (omega arith));
           onward = (omega (arith, w .onward .0, o .0), o .1);
         })
 
@@ -162,41 +165,40 @@ module _ {bytes words ws : List ℕ} {scope : Scope} {levels top : ℕ} {claim :
       a = told e
 
       -- all premises are left
-      pub rule-applied : length vs ≡ length ws → Running bytes words vs vs scope levels p next next 0
-      rule-applied l =
-          let all : p .count - 0 ≡ p .count = omega arith in
-          record {
-            so-far = λ policy g j. ap (λ n. derives bytes policy g (levels - 1) (premisesFrom vs p n 0) next) all;
-            before = prepared-grown (o .kept) (y .prepared) (a .standing .formed) (a .standing .above);
-            same = same-refl 0 (place (p .top)) vs;
-            long = refl;
-            regions = y .regions;
-            space = record { words = omega (arith, y .space .words); fits = omega (arith, y .space .fits, a .standing .few) };
-            within = a .standing .within;
-            onward = (omega arith, a .standing .onward .1);
-          }
+      pub rule-applied : length vs ≡ length ws → Running bytes words vs vs scope levels p next p next
+      rule-applied l = record {
+        so-far = λ policy g j. refl;
+        one-top = refl;
+        before = prepared-grown (o .kept) (y .prepared) (a .standing .formed) (a .standing .above);
+        same = same-refl 0 (place (p .top)) vs;
+        long = refl;
+        regions = y .regions;
+        space = record { words = omega (arith, y .space .words); fits = omega (arith, y .space .fits, a .standing .few) };
+        within = a .standing .within;
+        onward = (omega arith, a .standing .onward .1);
+      }
 
       -- what the premises come to is what the claim's derivation comes to
       whole : (policy : Policy) (g : Goal) → Judged words ws scope policy g → derives bytes policy g (levels - 1) (premisesOf vs p) next ≡ derive bytes policy g levels (claimOf ws claim) at
       whole policy g j = goes-on _ (a .says policy g j) refl ∙ unroll bytes policy g levels (claimOf ws claim) at d
 
-      all-kept : {us : List ℕ} → Same 0 (place (p .top)) vs us → Same 0 (place top) ws us
-      all-kept k = same-trans (o .kept) (same-within {hi = place (p .top)} 0 (place top) (omega arith) (omega (arith, a .standing .above)) k)
+      module _ {us : List ℕ} {due : Plan} {reached : ℕ} (w : Running bytes words vs us scope levels p next due reached) where
+        all-kept : {xs : List ℕ} → Same 0 (place (due .top)) vs xs → Same 0 (place top) ws xs
+        all-kept k = same-trans (o .kept) (same-within {hi = place (due .top)} 0 (place top) (omega arith) (omega (arith, w .one-top, a .standing .above)) k)
 
-      module _ {us : List ℕ} {reached k : ℕ} (w : Running bytes words vs us scope levels p next reached k) where
-        -- no premise is left
-        pub all-derived : p .count ≤ k → Derives bytes words ws us scope levels top claim at (Next reached)
+        -- no premise is due
+        pub all-derived : due .count ≤ 0 → Derives bytes words ws us scope levels top claim at (Next reached)
         unfolding deriveAll
         all-derived h =
-            let none : p .count - k ≡ 0 = omega arith in
+            let none : due .count ≡ 0 = omega arith in
             record {
-              answer = λ policy g j. ap (λ n. derives bytes policy g (levels - 1) (premisesFrom vs p n k) reached) (sym none) ∙ w .so-far policy g (judged-kept (o .kept) (y .prepared) j) ∙ whole policy g j;
+              answer = λ policy g j. ap (λ n. derives bytes policy g (levels - 1) (premisesFrom vs due n 0) reached) (sym none) ∙ w .so-far policy g (judged-kept (o .kept) (y .prepared) j) ∙ whole policy g j;
               kept = all-kept (w .same);
               onward = (omega (arith, a .standing .onward .0, w .onward .0), w .onward .1);
             }
 
-        -- premise k is refused
-        pub premise-refused : (more : k < p .count) {c : Claim} (i : c ≡ premiseClaim (premiseAt p k)) {xs : List ℕ} {r : Derived} {f : Refusal} → Derives bytes words us xs scope (levels - 1) (p .top) c reached r → r ≡ Refused f
+        -- the first premise is refused
+        pub premise-refused : (more : 0 < due .count) {c : Claim} (i : c ≡ premiseClaim (due .first)) {xs : List ℕ} {r : Derived} {f : Refusal} → Derives bytes words us xs scope (levels - 1) (due .top) c reached r → r ≡ Refused f
             → Derives bytes words ws xs scope levels top claim at (Refused f)
         unfolding _>>=_
         premise-refused more i q t = record {

@@ -69,8 +69,10 @@ fn planned(
         19 => from_sides(claim, less, Shape::Both, at_most, unequal, 0, top),
         20 => from_sides(claim, unequal, Shape::Same, less, less, 0, top),
         21 => from_sides(claim, unequal, Shape::Exchanged, unequal, unequal, 0, top),
-        22 => memory_rules::in_region(regions, scope.regions, ws, claim, 1, value, top),
-        23 => memory_rules::in_region(regions, scope.regions, ws, claim, 2, value, top),
+        22..=23 => {
+            let right = memory_rules::right_of(number);
+            memory_rules::in_region(regions, scope.regions, ws, claim, right, value, top)
+        }
         _ => logic_rules::contradicted(value, top),
     }
 }
@@ -127,26 +129,24 @@ pub fn derive(
     match apply(bytes, regions, ws, scope, top, claim, at) {
         Step::Refused(refusal) => Derived::Refused(refusal),
         Step::Premises { plan, next } => {
-            let count = plan.count;
-            let high = plan.top;
+            let mut due = plan;
             let mut reached = next;
-            let mut k = 0;
-            while k < count {
-                let premise = plans::premise(plan, k);
+            while 0 < due.count {
+                let premise = plans::first(due);
                 match derive(
                     bytes,
                     regions,
                     ws,
                     scope,
                     levels - 1,
-                    high,
+                    due.top,
                     premise,
                     reached,
                 ) {
                     Derived::Next(after) => reached = after,
                     Derived::Refused(refusal) => return Derived::Refused(refusal),
                 }
-                k += 1;
+                due = plans::rest(due);
             }
             Derived::Next(reached)
         }

@@ -4,11 +4,21 @@ use claims::Plan;
 use claims::parts;
 use claims::plans;
 use model::Comparison;
+ghost use mathlib.Core.Path.{_≡_};
+ghost use Prim.Native.Nat.{_-_, _<_, _≤_};
 ghost use Rattle.terms.specs.Table.{Formed, Space};
 ghost use Rattle.claims.specs.Parts.{claimOf, ClaimBelow};
 ghost use Rattle.claims.specs.Plan.{newNodes, Planned};
 ghost use Rattle.claims.specs.Regions.{regionsOf, RegionWords, Over};
 ghost use Rattle.memory_rules.specs.Access.{regionAsks};
+
+// The right that rule 22, 1 to read, or rule 23, 2 to write, goes by.
+pub fn right_of(number: usize) -> u32
+    requires { ⌜ (22 ≤ number) × (number < 24) ⌝ }
+    ensures { λ r. ⌜ r ≡ number - 21 ⌝ }
+{
+    (number - 21) as u32
+}
 
 // Rules 22 and 23: readable(t), writable(t), from base ≤ t, t < base plus length, region j having the right, 1 to read or 2 to write.
 // Two new nodes.

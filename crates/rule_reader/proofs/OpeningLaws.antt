@@ -40,7 +40,7 @@ use Rattle.claims.proofs.PartLaws.{neither}
 use Rattle.model_laws.proofs.Steps.{stops, goes-on, not-found, is-found}
 
 -- ---- what stands after a rule byte
-downFrom : ℕ → List ℕ
+pub downFrom : ℕ → List ℕ
 downFrom zero = []
 downFrom (suc n) = n ∷ downFrom n
 
@@ -55,39 +55,37 @@ past-end [] n h = refl
 past-end (x ∷ l) zero h = absurd (omega arith)
 past-end (x ∷ l) (suc n) h = past-end l n (omega arith)
 
--- the table of formats: 0 plain, 1 an index, 2 a term, 3 a region
-abbrev formats : List ℕ
-formats = 1 ∷ 0 ∷ 0 ∷ 0 ∷ 0 ∷ 2 ∷ 2 ∷ 2 ∷ 2 ∷ 0 ∷ 0 ∷ 0 ∷ 0 ∷ 0 ∷ 0 ∷ 0 ∷ 0 ∷ 0 ∷ 0 ∷ 0 ∷ 0 ∷ 0 ∷ 3 ∷ 3 ∷ 2 ∷ []
+-- so many rows of the table of rules, from a number on, have a form
+abbrev Rows : Form → (from count : ℕ) → Type 0
+Rows form from count = Every (λ k. form ≡ formOf (getElem? rules (from + k))) (downFrom count)
 
-abbrev formOfFormat : ℕ → Form
-formOfFormat zero = Plain
-formOfFormat (suc zero) = Index
-formOfFormat (suc (suc zero)) = Argument
-formOfFormat (suc (suc (suc k))) = Region
-
-abbrev Formats : ℕ → Type 0
-Formats n = formOfFormat (getD formats n 0) ≡ formOf (getElem? rules n)
-
-rows : Every Formats (downFrom (length rules))
+pub plain-low : Rows Plain 1 4
 unfolding downFrom
-rows = search (_&_, empty, refl) depth 60
+plain-low = search (_&_, empty) depth 60
+
+pub arguments : Rows Argument 5 4
+unfolding downFrom
+arguments = search (_&_, empty) depth 60
+
+pub plain-high : Rows Plain 9 13
+unfolding downFrom
+plain-high = search (_&_, empty) depth 60
+
+pub regions : Rows Region 22 2
+unfolding downFrom
+regions = search (_&_, empty) depth 60
 
 module _ {n : ℕ} where
-  pub form-unknown-is : length rules ≤ n → Unknown ≡ formOf (getElem? rules n)
-  form-unknown-is h = ap formOf (sym (past-end rules n h))
+  pub form-row : (k : ℕ) → n ≡ k → formOf (getElem? rules k) ≡ formOf (getElem? rules n)
+  form-row k e = ap (λ i. formOf (getElem? rules i)) (sym e)
 
-  module _ (h : n < length rules) where
-    pub form-is : {x : ℕ} (k : ℕ) → x ≡ getD formats n 0 → x ≡ k → formOfFormat k ≡ formOf (getElem? rules n)
-    form-is k e d = ap formOfFormat (sym d ∙ e) ∙ each-below (length rules) rows n h
+  pub form-rows : {form : Form} (from count : ℕ) → Rows form from count → from ≤ n → n < from + count → form ≡ formOf (getElem? rules n)
+  form-rows {form} from count r l h =
+      let e : from + (n - from) ≡ n = omega arith in
+      subst (λ i. form ≡ formOf (getElem? rules i)) e (each-below count r (n - from) (omega arith))
 
-    pub form-region-is : (x : ℕ) → x ≡ getD formats n 0 → (x ≡ 0 → ⊥) → (x ≡ 1 → ⊥) → (x ≡ 2 → ⊥) → Region ≡ formOf (getElem? rules n)
-    form-region-is x e a b c = other x a b c ∙ form-is x e refl
-      where
-        other : (x : ℕ) → (x ≡ 0 → ⊥) → (x ≡ 1 → ⊥) → (x ≡ 2 → ⊥) → Region ≡ formOfFormat x
-        other zero a b c = absurd (a refl)
-        other (suc zero) a b c = absurd (b refl)
-        other (suc (suc zero)) a b c = absurd (c refl)
-        other (suc (suc (suc k))) a b c = refl
+  pub form-unknown : 24 ≤ n → (n ≡ 24 → ⊥) → Unknown ≡ formOf (getElem? rules n)
+  form-unknown h k = ap formOf (sym (past-end rules n (omega arith)))
 
 -- ---- the row of a form
 clash : {A : Type 0} {f g : Form} → f ≡ g → (variant (declared enum) f ≡ variant (declared enum) g → ⊥) → A

@@ -35,56 +35,18 @@ pub enum Opened {
 // registerNodes: each register's node where it is its own variable.
 pub const REGISTER_NODES: [u32; REGISTERS] = [0, 1, 2, 3, 4, 5, 6, 7, 8, 9, 10, 11, 12, 13, 14, 15];
 
-// What stands after each rule byte, in the order of the rules.
-const FORMATS: [u8; 25] = [
-    INDEX,
-    PLAIN,
-    PLAIN,
-    PLAIN,
-    PLAIN,
-    TERM,
-    TERM,
-    TERM,
-    TERM,
-    PLAIN,
-    PLAIN,
-    PLAIN,
-    PLAIN,
-    PLAIN,
-    PLAIN,
-    PLAIN,
-    PLAIN,
-    PLAIN,
-    PLAIN,
-    PLAIN,
-    PLAIN,
-    PLAIN,
-    REGION,
-    REGION,
-    TERM,
-];
-
-const PLAIN: u8 = 0;
-
-const INDEX: u8 = 1;
-
-const TERM: u8 = 2;
-
-const REGION: u8 = 3;
-
 // What stands after the byte of a rule.
 fn form_of(number: usize) -> Form
     ensures { λ r. ⌜ r ≡ formOf (getElem? rules number) ⌝ }
 {
-    if FORMATS.len() <= number {
-        return Form::Unknown;
-    }
-    let format = FORMATS[number];
-    match format {
-        PLAIN => Form::Plain,
-        INDEX => Form::Index,
-        TERM => Form::Argument,
-        _ => Form::Region,
+    match number {
+        0 => Form::Index,
+        1..=4 => Form::Plain,
+        5..=8 => Form::Argument,
+        9..=21 => Form::Plain,
+        22..=23 => Form::Region,
+        24 => Form::Argument,
+        _ => Form::Unknown,
     }
 }
 

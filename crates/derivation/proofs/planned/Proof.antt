@@ -3,7 +3,7 @@ use Rattle.model.specs.Rule.{premises}
 use Rattle.claims.specs.Rule.{ruleOf}
 use Rattle.logic_rules.specs.Sides.{reflexivePremises, sidePremises}
 use Rattle.arithmetic_rules.specs.Monotone.{monotonePremises}
-use Rattle.derivation.proofs.ChoiceLaws.{none-below, last-rule, argument-below, chosen, reads-region, writes-region}
+use Rattle.derivation.proofs.ChoiceLaws.{none-below, last-rule, argument-below, chosen, asks-region}
 use borrow.Author.Needs.{needs}
 use Rattle.derivation.proofs.planned.Statement.{statement}
 use Rattle.derivation.proofs.planned.Tie as tie
@@ -74,14 +74,14 @@ from-sides-requires-9 c κs = search needs
 from-sides-requires-10 : tie.Need-from-sides-requires-10
 from-sides-requires-10 c κs = search needs
 
+right-of-requires : tie.Need-right-of-requires
+right-of-requires c κs = (none-below 22 _ (c .before .match .rest), c .if1 .taken)
+
 in-region-requires : tie.Need-in-region-requires
 in-region-requires c κs = search needs
 
-in-region-requires-2 : tie.Need-in-region-requires-2
-in-region-requires-2 c κs = search needs
-
 contradicted-requires : tie.Need-contradicted-requires
-contradicted-requires c κs = argument-below (c .before .before .before .pre) 24 (last-rule (c .before .before .before .pre) (none-below 24 _ (c .match .rest))) refl
+contradicted-requires c κs = argument-below (c .before .before .before .before .pre) 24 (last-rule (c .before .before .before .before .pre) (c .if1 .left)) refl
 
 same-length : tie.Need-same-length
 same-length c = search needs
@@ -211,19 +211,11 @@ same-length-13 : tie.Need-same-length-13
 same-length-13 c = search needs
 
 returns-23 : tie.Need-returns-23
-unfolding ruleOf
-returns-23 c = chosen (c .before .before .before .before .before .before .before .pre) 22 (c .before .before .before .before .match .keys23) (c .before .before .in-region .ensures) (λ policy g j. (j .regions, reads-region policy g _ _))
-
-same-length-14 : tie.Need-same-length-14
-same-length-14 c = search needs
+returns-23 c = chosen (c .before .before .before .before .before .before .before .before .before .pre) _ refl (c .before .before .in-region .ensures) (λ policy g j. (j .regions, asks-region policy g _ _ _ (none-below 22 _ (c .before .before .before .before .before .before .match .rest), c .before .before .before .before .before .if1 .taken) (c .before .before .before .before .right-of .ensures)))
 
 returns-24 : tie.Need-returns-24
 unfolding ruleOf
-returns-24 c = chosen (c .before .before .before .before .before .before .before .pre) 23 (c .before .before .before .before .match .keys24) (c .before .before .in-region2 .ensures) (λ policy g j. (j .regions, writes-region policy g _ _))
-
-returns-25 : tie.Need-returns-25
-unfolding ruleOf
-returns-25 c = chosen (c .before .before .before .before .pre) 24 (last-rule (c .before .before .before .before .pre) (none-below 24 _ (c .before .match .rest))) (c .contradicted .ensures _ (c .before .before .before .before .pre .prepared .formed) _) (λ policy g j. (tt, refl))
+returns-24 c = chosen (c .before .before .before .before .before .pre) 24 (last-rule (c .before .before .before .before .before .pre) (c .before .if1 .left)) (c .contradicted .ensures _ (c .before .before .before .before .before .pre .prepared .formed) _) (λ policy g j. (tt, refl))
 
 pub planned-spec : {M : Type 1} → statement M
 planned-spec =
@@ -251,8 +243,8 @@ planned-spec =
     from-sides-requires-8
     from-sides-requires-9
     from-sides-requires-10
+    right-of-requires
     in-region-requires
-    in-region-requires-2
     contradicted-requires
     same-length
     returns
@@ -290,6 +282,4 @@ planned-spec =
     returns-22
     same-length-13
     returns-23
-    same-length-14
-    returns-24
-    returns-25)
+    returns-24)
