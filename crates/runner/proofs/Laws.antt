@@ -28,8 +28,8 @@ use Rattle.routine.specs.declared.instructions.CodeRead.{CodeRead}
 use Rattle.routine.specs.Headers.{Fits, HeaderRead}
 use Rattle.routine.specs.Code.{instructionsOf, codeOfLines, codeResult, CodeMet}
 use Rattle.routine.proofs.Headers.{passed, stopped}
-use Rattle.machine.specs.Counted.{Counted, counted}
-use Rattle.machine.specs.Run.{Runnable, Ran}
+use Rattle.runs.specs.Counted.{Counted, counted}
+use Rattle.runs.specs.Run.{Runnable, Ran}
 use Rattle.runner.specs.Checks.{refusalOutcome, runOrRefuse, PackageRun, Runs}
 
 -- ---- the package

@@ -47,7 +47,7 @@ fn run_package(
         return refused(refusal);
     }
     let code = read.code;
-    machine::run_code(
+    runs::run_code(
         code,
         header.instructions,
         regions,

@@ -1,6 +1,6 @@
 use borrow.Author.Needs.{needs}
-use Rattle.machine.proofs.writable.Statement.{statement}
-use Rattle.machine.proofs.writable.Tie as tie
+use Rattle.rights.proofs.writable.Statement.{statement}
+use Rattle.rights.proofs.writable.Tie as tie
 
 some-region-requires : tie.Need-some-region-requires
 some-region-requires c κs = search needs

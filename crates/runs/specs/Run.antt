@@ -13,8 +13,8 @@ use Rattle.model.specs.declared.Instruction.{Instruction}
 use Rattle.model.specs.declared.Outcome.{Outcome}
 use Rattle.routine.specs.declared.instructions.Line.{Line}
 use Rattle.routine.specs.Code.{AllFormed}
 use Rattle.machine.specs.Step.{Under}
-use Rattle.machine.specs.Counted.{Counted}
+use Rattle.runs.specs.Counted.{Counted}
 
 -- what a run asks of its arguments: the code is in the first `size` lines
 pub record Runnable (lines : List Line) (size count : ℕ) (registers : List ℕ) : Type 0 where

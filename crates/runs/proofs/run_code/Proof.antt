@@ -1,10 +1,10 @@
 use mathlib.Core.Path.{_∙_}
 use borrow.Author.Needs.{needs}
 use Prim.Native.Nat.{_-_}
-use Rattle.machine.proofs.Runs.{Going}
-use Rattle.machine.proofs.Runs as runs
-use Rattle.machine.proofs.run_code.Statement.{statement}
-use Rattle.machine.proofs.run_code.Tie as tie
+use Rattle.runs.proofs.Runs.{Going}
+use Rattle.runs.proofs.Runs as runs
+use Rattle.runs.proofs.run_code.Statement.{statement}
+use Rattle.runs.proofs.run_code.Tie as tie
 
 abbrev Inv-loop : tie.InvT-loop
 Inv-loop size regions count registers₀ memory₀ budget code counter₀ steps₀ registers memory counter steps =

@@ -1,6 +1,6 @@
 use borrow.Author.Needs.{needs}
-use Rattle.machine.proofs.gives.Statement.{statement}
-use Rattle.machine.proofs.gives.Tie as tie
+use Rattle.rights.proofs.gives.Statement.{statement}
+use Rattle.rights.proofs.gives.Tie as tie
 
 wide-requires : tie.Need-wide-requires
 wide-requires c κs = search needs

@@ -13,15 +13,14 @@ use Rattle.model.specs.Machine.{State, Step, startOf, next, returns, without-ri
 use Rattle.model.specs.Runner.{Run, stopped, runFrom}
 use Rattle.model.specs.declared.Region.{Region}
 use Rattle.model.specs.declared.Instruction.{Instruction}
-use Rattle.model.specs.declared.Instruction.the-variants.{Set, Add, AddImmediate, Subtract, Load, Store, Jump, JumpLess, JumpEqual, Return}
 use Rattle.model.specs.declared.Outcome.{Outcome}
 use Rattle.routine.specs.declared.instructions.Line.{Line}
-use Rattle.routine.specs.Code.{Formed, instructionsOf}
+use Rattle.routine.specs.Code.{instructionsOf}
 use Rattle.machine.specs.declared.Progress.{Progress}
 use Rattle.machine.specs.declared.Progress.the-variants.{Next, Returned, WithoutRight}
-use Rattle.machine.specs.Step.{InRange, Ready, Under, Executed, state, stepOf}
-use Rattle.machine.specs.Counted.{counted}
-use Rattle.machine.specs.Run.{Runnable, Ran}
+use Rattle.machine.specs.Step.{Ready, Under, Executed, state, stepOf}
+use Rattle.runs.specs.Counted.{counted}
+use Rattle.runs.specs.Run.{Runnable, Ran}
 
 -- ---- the instruction at the counter
 
@@ -35,20 +34,6 @@ beyond : {A : Type 0} (l : List A) (i : ℕ) → length l ≤ i → getElem? l i
 beyond [] i h = refl
 beyond (x ∷ xs) zero h = absurd (omega arith)
 beyond (x ∷ xs) (suc i) h = beyond xs i (omega arith)
-
--- an instruction that is formed has registers in range
-in-range : (n : ℕ) (x : Instruction) → Formed n x → InRange x
-unfolding Formed
-in-range n (Set d i) f = f .0
-in-range n (Add d a b) f = (f .0, (f .1, f .2))
-in-range n (AddImmediate d a i) f = (f .0, f .1)
-in-range n (Subtract d a b) f = (f .0, (f .1, f .2))
-in-range n (Load d a i) f = (f .0, f .1)
-in-range n (Store d a i) f = (f .0, f .1)
-in-range n (Jump i) f = tt
-in-range n (JumpLess a b i) f = (f .0, f .1)
-in-range n (JumpEqual a b i) f = (f .0, f .1)
-in-range n Return f = tt
 
 -- ---- the run
 
@@ -131,7 +116,8 @@ module _ (lines : List Line) (size : ℕ) (regions : List Region) (count : ℕ) 
           low = omega (arith, g .runnable .short);
           few = g .runnable .few;
           sixteen = g .as-many ∙ g .runnable .sixteen;
-          in-range = in-range size instruction (g .runnable .formed .at counter other (omega (arith, g .whole, g .runnable .short)));
+          size = size;
+          formed = g .runnable .formed .at counter other (omega (arith, g .whole, g .runnable .short));
         }
 
         module _ (r : Progress) (registers′ memory′ : List ℕ) (x : Executed (take count regions) instruction here r registers′ memory′) where

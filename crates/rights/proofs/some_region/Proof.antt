@@ -1,10 +1,10 @@
 use Prim.Native.Nat.{_-_}
-use Rattle.machine.specs.Right.{grants}
-use Rattle.machine.proofs.Rights.{Searching}
-use Rattle.machine.proofs.Rights as rights
+use Rattle.rights.specs.Right.{grants}
+use Rattle.rights.proofs.Rights.{Searching}
+use Rattle.rights.proofs.Rights as rights
 use borrow.Author.Needs.{needs}
-use Rattle.machine.proofs.some_region.Statement.{statement}
-use Rattle.machine.proofs.some_region.Tie as tie
+use Rattle.rights.proofs.some_region.Statement.{statement}
+use Rattle.rights.proofs.some_region.Tie as tie
 
 abbrev Inv-loop : tie.InvT-loop
 Inv-loop count right w regions j₀ j = Searching (grants right) regions count w j
