@@ -16,9 +16,9 @@ use Rattle.model.specs.Package.{mostInstructions, mostAnnotations, mostBytes, p
 use Rattle.model.specs.declared.Header.{Header}
 use Rattle.model.specs.declared.Refusal.{Refusal}
 use Rattle.model.specs.declared.Refusal.the-variants.{BadHeader}
-use Rattle.routine.specs.declared.header.HeaderAnswer.{HeaderAnswer}
-use Rattle.routine.specs.declared.header.HeaderAnswer.the-variants.{Passed, Refused}
-use Rattle.routine.specs.Headers.{headerResult, Fits, FitsIfPassed, HeaderRead}
+use Rattle.header.specs.declared.HeaderAnswer.{HeaderAnswer}
+use Rattle.header.specs.declared.HeaderAnswer.the-variants.{Passed, Refused}
+use Rattle.header.specs.Headers.{headerResult, Fits, FitsIfPassed, HeaderRead}
 
 -- Laws are over the fields n, m, s, t that the code read.
 module _ (bytes : List ℕ) where

@@ -1,10 +1,10 @@
 use mathlib.Core.Path.{refl}
 use native.Mathlib.Omega.{arith}
-use Rattle.routine.proofs.Headers.{passed, start-inside, proof-part, no-part}
+use Rattle.header.proofs.Headers.{passed, start-inside, proof-part, no-part}
 use native.Mathlib.Omega.{arith}
 use borrow.Author.Needs.{needs}
-use Rattle.routine.proofs.finder.find_proof.Statement.{statement}
-use Rattle.routine.proofs.finder.find_proof.Tie as tie
+use Rattle.header.proofs.finder.find_proof.Statement.{statement}
+use Rattle.header.proofs.finder.find_proof.Tie as tie
 
 read-header-requires : tie.Need-read-header-requires
 read-header-requires c κs = search needs

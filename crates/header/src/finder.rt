@@ -1,6 +1,5 @@
 // The finder: the proof section of a package, and its companion answer.
-use crate::header;
-use crate::header::HeaderAnswer;
+use crate::HeaderAnswer;
 use model::Finding;
 ghost use mathlib.Core.Path.{_≡_};
 ghost use Prim.Native.Nat.{_+_};
@@ -12,10 +11,10 @@ pub fn find_proof(bytes: &[u8]) -> &[u8]
     ensures contents { λ r. ⌜ now r ≡ proofSection (now (bytes .entry)) .contents ⌝ }
     ensures position { λ r. ⌜ (ptr r .0 ≡ ptr (bytes .entry) .0) × (ptr r .1 ≡ ptr (bytes .entry) .1 + proofSection (now (bytes .entry)) .start) ⌝ }
 {
-    let answer = header::read_header(bytes);
+    let answer = crate::read_header(bytes);
     match answer {
         HeaderAnswer::Passed(header) => {
-            let start = header::proof_start(header);
+            let start = crate::proof_start(header);
             &bytes[start..]
         }
         HeaderAnswer::Refused(_) => &bytes[..0],
@@ -26,7 +25,7 @@ pub fn find_proof(bytes: &[u8]) -> &[u8]
 pub fn find_answer(bytes: &[u8]) -> Finding
     ensures { λ r. ⌜ r ≡ finderAnswer (now (bytes .entry)) ⌝ }
 {
-    let answer = header::read_header(bytes);
+    let answer = crate::read_header(bytes);
     match answer {
         HeaderAnswer::Passed(_) => Finding {
             number: 0,

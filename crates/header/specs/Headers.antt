@@ -7,8 +7,8 @@ use Rattle.model.specs.Result.{Result, stop, value}
 use Rattle.model.specs.Package.{packageLength, mostInstructions, mostAnnotations, mostBytes, readHeader}
 use Rattle.model.specs.declared.Header.{Header}
 use Rattle.model.specs.declared.Refusal.{Refusal}
-use Rattle.routine.specs.declared.header.HeaderAnswer.{HeaderAnswer}
-use Rattle.routine.specs.declared.header.HeaderAnswer.the-variants.{Passed, Refused}
+use Rattle.header.specs.declared.HeaderAnswer.{HeaderAnswer}
+use Rattle.header.specs.declared.HeaderAnswer.the-variants.{Passed, Refused}
 
 -- the answer as a result of the definitions
 unfoldable pub headerResult : HeaderAnswer → Result Refusal Header

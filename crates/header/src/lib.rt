@@ -1,4 +1,6 @@
-// The package's header: check 7.
+// The package's header: check 7; and the finder of the proof section.
+pub mod finder;
+
 use limits::MOST_ANNOTATIONS;
 use limits::MOST_BYTES;
 use limits::MOST_INSTRUCTIONS;
@@ -7,7 +9,7 @@ use model::Refusal;
 ghost use mathlib.Core.Path.{_≡_};
 ghost use Prim.Native.Nat.{_≤_};
 ghost use Rattle.model.specs.Package.{mostBytes, proofStart};
-ghost use Rattle.routine.specs.Headers.{HeaderRead};
+ghost use Rattle.header.specs.Headers.{HeaderRead};
 
 pub enum HeaderAnswer {
     Passed(Header),

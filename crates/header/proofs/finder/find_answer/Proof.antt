@@ -1,7 +1,7 @@
-use Rattle.routine.proofs.Headers.{found-whole, found-refused}
+use Rattle.header.proofs.Headers.{found-whole, found-refused}
 use borrow.Author.Needs.{needs}
-use Rattle.routine.proofs.finder.find_answer.Statement.{statement}
-use Rattle.routine.proofs.finder.find_answer.Tie as tie
+use Rattle.header.proofs.finder.find_answer.Statement.{statement}
+use Rattle.header.proofs.finder.find_answer.Tie as tie
 
 read-header-requires : tie.Need-read-header-requires
 read-header-requires c κs = search needs

@@ -1,8 +1,8 @@
 use mathlib.Core.Path.{_∙_}
-use Rattle.routine.proofs.Headers.{short, miscounted, overnoted, long, uneven, good}
+use Rattle.header.proofs.Headers.{short, miscounted, overnoted, long, uneven, good}
 use borrow.Author.Needs.{needs}
-use Rattle.routine.proofs.header.read_header.Statement.{statement}
-use Rattle.routine.proofs.header.read_header.Tie as tie
+use Rattle.header.proofs.read_header.Statement.{statement}
+use Rattle.header.proofs.read_header.Tie as tie
 
 returns : tie.Need-returns
 returns c = short _ (c .if1 .taken)
