@@ -1,4 +1,5 @@
 use mathlib.Core.Path.{_∙_}
+use native.Mathlib.Omega.{arith}
 use Rattle.header.proofs.Headers.{short, miscounted, overnoted, long, uneven, good}
 use borrow.Author.Needs.{needs}
 use Rattle.header.proofs.read_header.Statement.{statement}
@@ -32,7 +33,7 @@ wide-requires-2 : tie.Need-wide-requires-2
 wide-requires-2 c κs = search needs
 
 returns-4 : tie.Need-returns-4
-returns-4 c = long _ (c .before .before .before .before .before .before .before .before .before .if1 .left) _ (c .before .before .before .before .before .before .before .before .half .ensures .0) (c .before .before .before .before .before .before .before .if2 .left) _ (c .before .before .before .before .before .before .half2 .ensures .0) (c .before .before .before .before .before .if3 .left) _ _ (c .before .before .before .wide .ensures ∙ c .before .before .before .before .word .ensures) (c .before .wide2 .ensures ∙ c .before .before .word2 .ensures) (c .if4 .taken)
+returns-4 c = long _ (c .before .before .before .before .before .before .before .before .before .if1 .left) _ (c .before .before .before .before .before .before .before .before .half .ensures .0) (c .before .before .before .before .before .before .before .if2 .left) _ (c .before .before .before .before .before .before .half2 .ensures .0) (c .before .before .before .before .before .if3 .left) _ _ (c .before .before .before .wide .ensures ∙ c .before .before .before .before .word .ensures) (c .before .wide2 .ensures ∙ c .before .before .word2 .ensures) (omega arith)
 
 mul-if5 : tie.Need-mul-if5
 mul-if5 c = search needs
@@ -47,7 +48,7 @@ add-if5-3 : tie.Need-add-if5-3
 add-if5-3 c = search needs
 
 returns-5 : tie.Need-returns-5
-returns-5 c = uneven _ (c .before .before .before .before .before .before .before .before .before .before .if1 .left) _ (c .before .before .before .before .before .before .before .before .before .half .ensures .0) (c .before .before .before .before .before .before .before .before .if2 .left) _ (c .before .before .before .before .before .before .before .half2 .ensures .0) (c .before .before .before .before .before .before .if3 .left) _ _ (c .before .before .before .before .wide .ensures ∙ c .before .before .before .before .before .word .ensures) (c .before .before .wide2 .ensures ∙ c .before .before .before .word2 .ensures) (c .before .if4 .left) (c .if5 .taken)
+returns-5 c = uneven _ (c .before .before .before .before .before .before .before .before .before .before .if1 .left) _ (c .before .before .before .before .before .before .before .before .before .half .ensures .0) (c .before .before .before .before .before .before .before .before .if2 .left) _ (c .before .before .before .before .before .before .before .half2 .ensures .0) (c .before .before .before .before .before .before .if3 .left) _ _ (c .before .before .before .before .wide .ensures ∙ c .before .before .before .before .before .word .ensures) (c .before .before .wide2 .ensures ∙ c .before .before .before .word2 .ensures) (c .before .if4 .left) (λ e. omega arith)
 
 returns-6 : tie.Need-returns-6
 returns-6 c = good _ (c .before .before .before .before .before .before .before .before .before .before .if1 .left) _ (c .before .before .before .before .before .before .before .before .before .half .ensures .0) (c .before .before .before .before .before .before .before .before .if2 .left) _ (c .before .before .before .before .before .before .before .half2 .ensures .0) (c .before .before .before .before .before .before .if3 .left) _ _ (c .before .before .before .before .wide .ensures ∙ c .before .before .before .before .before .word .ensures) (c .before .before .wide2 .ensures ∙ c .before .before .before .word2 .ensures) (c .before .if4 .left) (c .if5 .left)

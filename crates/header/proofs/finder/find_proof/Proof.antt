@@ -1,7 +1,6 @@
 use mathlib.Core.Path.{refl}
 use native.Mathlib.Omega.{arith}
 use Rattle.header.proofs.Headers.{passed, start-inside, proof-part, no-part}
-use native.Mathlib.Omega.{arith}
 use borrow.Author.Needs.{needs}
 use Rattle.header.proofs.finder.find_proof.Statement.{statement}
 use Rattle.header.proofs.finder.find_proof.Tie as tie
