@@ -4,13 +4,12 @@ use limits::MOST_ATOMS;
 use limits::REGISTERS;
 use model::Header;
 use model::Refusal;
-use routine::header;
 ghost use mathlib.Core.Path.{_≡_};
 ghost use Prim.Native.Nat.{_^_, _≤_, _<_};
 ghost use lib.ListN.{length};
 ghost use Rattle.model.specs.Package.{mostAnnotations, proofStart};
 ghost use Rattle.expressions.specs.Reading.{Reads};
-ghost use Rattle.routine.specs.Headers.{Fits};
+ghost use Rattle.header.specs.Headers.{Fits};
 ghost use Rattle.annotations.specs.Annotations.{bodyAt, AnnotationRead, AnnotationsMet};
 
 // A position or an index as a word.

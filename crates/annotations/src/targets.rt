@@ -9,7 +9,7 @@ use routine::instructions::InstructionAnswer;
 use routine::instructions::Target;
 ghost use Prim.Native.Nat.{_≤_, _<_};
 ghost use lib.ListN.{length, take};
-ghost use Rattle.routine.specs.Headers.{Fits};
+ghost use Rattle.header.specs.Headers.{Fits};
 ghost use Rattle.annotations.specs.Targets.{TargetListed, TargetMet, TargetsMet};
 
 pub enum TargetsAnswer {

@@ -23,13 +23,13 @@ use Rattle.policy.specs.declared.Policy as declared
 use Rattle.policy.specs.declared.PolicyAnswer.the-variants as policies
 use Rattle.policy.specs.declared.PolicyRead.{PolicyRead}
 use Rattle.policy.specs.Policy.{policyOf, Checked, PolicyReads, policy-passed, policy-refused}
-use Rattle.routine.specs.declared.header.HeaderAnswer.{HeaderAnswer}
-use Rattle.routine.specs.declared.header.HeaderAnswer.the-variants as headers
+use Rattle.header.specs.declared.HeaderAnswer.{HeaderAnswer}
+use Rattle.header.specs.declared.HeaderAnswer.the-variants as headers
 use Rattle.routine.specs.declared.instructions.CodeAnswer.{CodeAnswer}
 use Rattle.routine.specs.declared.instructions.CodeAnswer.the-variants as codes
-use Rattle.routine.specs.Headers.{Fits, HeaderRead}
+use Rattle.header.specs.Headers.{Fits, HeaderRead}
 use Rattle.routine.specs.Code.{codeChecked}
-use Rattle.routine.proofs.Headers.{passed, stopped}
+use Rattle.header.proofs.Headers.{passed, stopped}
 use Rattle.routine.proofs.Facts.{checked-code}
 use Rattle.annotations.specs.declared.reading.AnnotationsAnswer.{AnnotationsAnswer}
 use Rattle.annotations.specs.declared.reading.AnnotationsAnswer.the-variants as sections

@@ -2,6 +2,7 @@
 
 use annotations::reading::AnnotationsAnswer;
 use annotations::targets::TargetsAnswer;
+use header::HeaderAnswer;
 use limits::LEAST_WORKSPACE;
 use limits::MOST_ANNOTATIONS;
 use model::Header;
@@ -10,7 +11,6 @@ use model::Verdict;
 use moves::Setting;
 use policy::Policy;
 use policy::PolicyAnswer;
-use routine::header::HeaderAnswer;
 use routine::instructions::CodeAnswer;
 use workspace::AREA_WORDS;
 ghost use mathlib.Core.Path.{_≡_};
@@ -21,7 +21,7 @@ ghost use Rattle.model.specs.Routine.{readRoutine};
 ghost use Rattle.model.specs.Property.{Safe};
 ghost use Rattle.workspace.specs.Layout.{areaWords};
 ghost use Rattle.policy.specs.Policy.{policyOf, Checked};
-ghost use Rattle.routine.specs.Headers.{Fits};
+ghost use Rattle.header.specs.Headers.{Fits};
 ghost use Rattle.linear.specs.Area.{Cleared};
 ghost use Rattle.checker.specs.Checks.{routineVerdict, AnnotationsChecked};
 
@@ -81,7 +81,7 @@ fn check_annotations(
     let setting = Setting {
         policy,
         header,
-        end: routine::header::proof_start(header),
+        end: header::proof_start(header),
     };
     evaluation::evaluate(bytes, conditions, &indexes, &places, setting, workspace)
 }
@@ -92,7 +92,7 @@ fn check_package(workspace: &mut [u32], conditions: &[u8], policy: Policy, bytes
     requires { ⌜ Checked (now conditions) policy ⌝ }
     ensures { λ r. ⌜ r ≡ routineVerdict (now (bytes .entry)) (policyOf (now (conditions .entry)) policy) (readRoutine (now (bytes .entry))) ⌝ }
 {
-    let header = match routine::header::read_header(bytes) {
+    let header = match header::read_header(bytes) {
         HeaderAnswer::Passed(header) => header,
         HeaderAnswer::Refused(refusal) => return refused(refusal),
     };

@@ -35,43 +35,34 @@ formed-as n f e = subst (Formed n) e f
 -- what the functions of the kinds ask of the fields
 module _ (n : ℕ) {instruction : Instruction} (f : Formed n instruction) where
   pub set-asks : {d i : ℕ} → instruction ≡ Set d i → d < registerCount
-  unfolding Formed
   set-asks e = formed-as n f e .0
 
   module _ {d a b : ℕ} where
     pub add-asks : instruction ≡ Add d a b → (d < registerCount) × (a < registerCount) × (b < registerCount)
-    unfolding Formed
     add-asks e = formed-as n f e
 
     pub subtract-asks : instruction ≡ Subtract d a b → (d < registerCount) × (a < registerCount) × (b < registerCount)
-    unfolding Formed
     subtract-asks e = formed-as n f e
 
   module _ {d a i : ℕ} where
     pub add-immediate-asks : instruction ≡ AddImmediate d a i → (d < registerCount) × (a < registerCount)
-    unfolding Formed
     add-immediate-asks e = let g = formed-as n f e in (g .0, g .1)
 
     pub load-asks : instruction ≡ Load d a i → (d < registerCount) × (a < registerCount)
-    unfolding Formed
     load-asks e = let g = formed-as n f e in (g .0, g .1)
 
     pub store-asks : instruction ≡ Store d a i → a < registerCount
-    unfolding Formed
     store-asks e = formed-as n f e .1
 
   module _ {i : ℕ} (h : n ≤ mostInstructions) where
     pub jump-asks : instruction ≡ Jump i → i ≤ mostInstructions
-    unfolding Formed
     jump-asks e = omega (arith, formed-as n f e)
 
     module _ {a b : ℕ} where
       pub less-asks : instruction ≡ JumpLess a b i → (i ≤ mostInstructions) × ((a < registerCount) × (b < registerCount))
-      unfolding Formed
       less-asks e = let g = formed-as n f e in (omega (arith, g .2), (g .0, g .1))
 
       pub equal-asks : instruction ≡ JumpEqual a b i → (i ≤ mostInstructions) × ((a < registerCount) × (b < registerCount))
-      unfolding Formed
       equal-asks e = let g = formed-as n f e in (omega (arith, g .2), (g .0, g .1))
 
 -- the same where less is known of policy and routine, and the move has another name

@@ -55,7 +55,7 @@ module _ {bytes : List ℕ} {h : Header} {index : ℕ} {r : InstructionAnswer} (
   }
 
   pub not-fetched : {x : Refusal} → r ≡ read.Refused x → Fetched bytes h index Return
-  unfolding instructionResult Formed
+  unfolding instructionResult
   not-fetched {x} e = record {
     formed = tt;
     is = λ code c. let same : stop x ≡ value (getD code index Return) = sym (ap instructionResult e) ∙ w .is ∙ code-at bytes h c index Return below in let z : _≡_ {A = ℕ} 0 1 = cc in absurd (omega arith);

@@ -1,7 +1,6 @@
 // The loader for hosts in C and Rust: numbers and slices only. A slice is passed as a pointer and a length; each answer goes into an
 // array of the caller's.
-use routine::header;
-use routine::header::HeaderAnswer;
+use header::HeaderAnswer;
 ghost use mathlib.Core.Path.{_≡_};
 ghost use mathlib.Core.List.{[], _∷_};
 ghost use lib.ListN.{length};

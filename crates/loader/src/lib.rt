@@ -40,12 +40,12 @@ pub fn find_proof(routine: &[u8]) -> &[u8]
     ensures contents { λ r. ⌜ now r ≡ proofSection (now (routine .entry)) .contents ⌝ }
     ensures position { λ r. ⌜ (ptr r .0 ≡ ptr (routine .entry) .0) × (ptr r .1 ≡ ptr (routine .entry) .1 + proofSection (now (routine .entry)) .start) ⌝ }
 {
-    routine::finder::find_proof(routine)
+    header::finder::find_proof(routine)
 }
 
 // Why the finder hands back an empty part: 7 and its place, or 0 and 0 where check 7 passes.
 pub fn find_answer(routine: &[u8]) -> Finding
     ensures { λ r. ⌜ r ≡ finderAnswer (now (routine .entry)) ⌝ }
 {
-    routine::finder::find_answer(routine)
+    header::finder::find_answer(routine)
 }

@@ -14,7 +14,7 @@ use Rattle.model.specs.declared.Instruction.{Instruction}
 use Rattle.model.specs.declared.Instruction.the-variants.{Set, Add, AddImmediate, Subtract, Load, Store, Jump, JumpLess, JumpEqual, Return}
 use Rattle.machine.specs.declared.Progress.{Progress}
 use Rattle.machine.specs.declared.Progress.the-variants.{Next, Returned, WithoutRight}
-use Rattle.machine.specs.Right.{permits}
+use Rattle.rights.specs.Right.{permits}
 use Rattle.machine.specs.Step.{Ready, Under, Executed, state, target, stepOf, Kept}
 
 -- the instruction is known

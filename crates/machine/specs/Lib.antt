@@ -1,4 +1,1 @@
-pub mod Right
 pub mod Step
-pub mod Counted
-pub mod Run

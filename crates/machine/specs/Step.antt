@@ -10,29 +10,18 @@ use Rattle.model.specs.Package.{mostInstructions}
 use Rattle.model.specs.Machine.{State, Step, next, returns, without-right, execute}
 use Rattle.model.specs.declared.Region.{Region}
 use Rattle.model.specs.declared.Instruction.{Instruction}
-use Rattle.model.specs.declared.Instruction.the-variants.{Set, Add, AddImmediate, Subtract, Load, Store, Jump, JumpLess, JumpEqual, Return}
+use Rattle.routine.specs.Code.{Formed}
 use Rattle.machine.specs.declared.Progress.{Progress}
 use Rattle.machine.specs.declared.Progress.the-variants.{Next, Returned, WithoutRight}
-
--- the instruction's registers are among the sixteen
-abbrev pub InRange : Instruction → Type 0
-InRange (Set d i) = d < registerCount
-InRange (Add d a b) = (d < registerCount) × ((a < registerCount) × (b < registerCount))
-InRange (AddImmediate d a i) = (d < registerCount) × (a < registerCount)
-InRange (Subtract d a b) = (d < registerCount) × ((a < registerCount) × (b < registerCount))
-InRange (Load d a i) = (d < registerCount) × (a < registerCount)
-InRange (Store d a i) = (d < registerCount) × (a < registerCount)
-InRange (Jump i) = Unit
-InRange (JumpLess a b i) = (a < registerCount) × (b < registerCount)
-InRange (JumpEqual a b i) = (a < registerCount) × (b < registerCount)
-InRange Return = Unit
 
 -- what a step asks of its arguments
 pub record Ready (counter count : ℕ) (registers : List ℕ) (instruction : Instruction) : Type 0 where
   pub low : counter < mostInstructions
   pub few : count ≤ mostRegions
   pub sixteen : length registers ≡ registerCount
-  pub in-range : InRange instruction
+  -- the instruction is one of a code of some size
+  pub size : ℕ
+  pub formed : Formed size instruction
 
 abbrev pub state : (counter : ℕ) (registers memory : List ℕ) → State
 state counter registers memory = record { counter = counter; registers = registers; memory = memory }

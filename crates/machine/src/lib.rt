@@ -1,60 +1,12 @@
-// The machine: rights, one step on lent registers and memory, and the budgeted run.
-use limits::MOST_INSTRUCTIONS;
+// The machine: one step of one instruction on lent registers and memory.
 use limits::MOST_REGIONS;
 use model::Instruction;
-use model::Outcome;
 use model::Region;
-use routine::instructions::Line;
 ghost use mathlib.Core.Path.{_≡_};
-ghost use mathlib.Core.Bool.{_&&_};
-ghost use Prim.Native.Nat.{_+_, _≤_, _<_};
+ghost use Prim.Native.Nat.{_+_, _<_};
 ghost use lib.ListN.{length, getD, take, set};
-ghost use Rattle.model.specs.Policy.{mostRegions, covers, someRegion};
 ghost use Rattle.model.specs.Package.{mostInstructions};
-ghost use Rattle.routine.specs.Code.{instructionsOf};
-ghost use Rattle.machine.specs.Right.{grants, permits};
 ghost use Rattle.machine.specs.Step.{Ready, target, state, Executed};
-ghost use Rattle.machine.specs.Run.{Runnable, Ran};
-
-// Whether the region gives the right, 1 read or 2 write, to the word.
-fn gives(region: Region, right: u32, w: usize) -> bool
-    ensures { λ r. ⌜ r ≡ (covers region w && grants right region) ⌝ }
-{
-    let base = fields::wide(region.base);
-    let end = base + fields::wide(region.size);
-    (base <= w) & (w < end) & ((region.rights == right) | (region.rights == 3))
-}
-
-// Whether some of the first `count` regions gives the right to the word.
-fn some_region(regions: [Region; MOST_REGIONS], count: usize, right: u32, w: usize) -> bool
-    requires { ⌜ count ≤ mostRegions ⌝ }
-    ensures { λ r. ⌜ r ≡ someRegion (grants right) (take count regions) w ⌝ }
-{
-    let mut j: usize = 0;
-    while j < count {
-        if gives(regions[j], right, w) {
-            return true;
-        }
-        j += 1;
-    }
-    false
-}
-
-// Whether the word may be read.
-pub fn readable(regions: [Region; MOST_REGIONS], count: usize, memory: usize, w: usize) -> bool
-    requires { ⌜ count ≤ mostRegions ⌝ }
-    ensures { λ r. ⌜ r ≡ permits 1 memory (take count regions) w ⌝ }
-{
-    (w < memory) & some_region(regions, count, 1, w)
-}
-
-// Whether the word may be written.
-pub fn writable(regions: [Region; MOST_REGIONS], count: usize, memory: usize, w: usize) -> bool
-    requires { ⌜ count ≤ mostRegions ⌝ }
-    ensures { λ r. ⌜ r ≡ permits 2 memory (take count regions) w ⌝ }
-{
-    (w < memory) & some_region(regions, count, 2, w)
-}
 
 // What a step comes to: the counter to go on at, or why the run ends.
 pub enum Progress {
@@ -114,7 +66,7 @@ fn load(
     ensures { λ r. ⌜ Executed (take count regions) (Instruction.Load d a i) (state counter (now (registers .entry)) (now (memory .entry))) r (now (registers .exit)) (now (memory .entry)) ⌝ }
 {
     let at = fields::wide(fields::add(word(registers, a), i));
-    if readable(regions, count, memory.len(), at) {
+    if rights::readable(regions, count, memory.len(), at) {
         let w = memory[at];
         return assign(d, w, counter, registers);
     }
@@ -136,7 +88,7 @@ fn store(
     ensures { λ r. ⌜ Executed (take count regions) (Instruction.Store d a i) (state counter (now (registers .entry)) (now (memory .entry))) r (now (registers .entry)) (now (memory .exit)) ⌝ }
 {
     let at = fields::wide(fields::add(word(registers, a), i));
-    if writable(regions, count, memory.len(), at) {
+    if rights::writable(regions, count, memory.len(), at) {
         let w = word(registers, d);
         return put(memory, at, w, counter);
     }
@@ -190,52 +142,5 @@ pub fn execute(
             branch(taken, i, counter)
         }
         Instruction::Return => Progress::Returned,
-    }
-}
-
-// The answer of a run that stops at a counter.
-fn stopped(number: u32, counter: usize, steps: u32) -> Outcome
-    ensures { λ r. ⌜ r ≡ record { number = number; place = counter; steps = steps } ⌝ }
-{
-    Outcome {
-        number: number,
-        place: counter,
-        steps: steps,
-    }
-}
-
-// Runs the first `size` lines from the first on, until a return, an access without the right, a counter at the end, or the end of the budget.
-pub fn run_code(
-    code: [Line; MOST_INSTRUCTIONS],
-    size: usize,
-    regions: [Region; MOST_REGIONS],
-    count: usize,
-    registers: &mut [u32],
-    memory: &mut [u32],
-    budget: u32,
-) -> Outcome
-    requires { ⌜ Runnable code size count (now registers) ⌝ }
-    ensures { λ r. ⌜ Ran (instructionsOf (take size code)) (take count regions) (now (registers .entry)) (now (memory .entry)) budget r (now (registers .exit)) (now (memory .exit)) ⌝ }
-{
-    let mut counter: usize = 0;
-    let mut steps: u32 = 0;
-    loop {
-        if steps == budget {
-            return stopped(20, counter, steps);
-        }
-        if size <= counter {
-            return stopped(22, counter, steps);
-        }
-        let line = code[counter];
-        let instruction = line.instruction;
-        let progress = execute(instruction, counter, regions, count, registers, memory);
-        match progress {
-            Progress::Next(to) => {
-                counter = to;
-                steps += 1;
-            }
-            Progress::Returned => return stopped(0, counter, steps + 1),
-            Progress::WithoutRight => return stopped(21, counter, steps),
-        }
     }
 }

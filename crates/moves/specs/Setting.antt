@@ -8,7 +8,7 @@ use Rattle.model.specs.Policy.{Policy}
 use Rattle.model.specs.Package.{readCode, proofStart}
 use Rattle.model.specs.Routine.{Routine}
 use Rattle.model.specs.declared.Region.{Region}
-use Rattle.routine.specs.Headers.{Fits}
+use Rattle.header.specs.Headers.{Fits}
 use Rattle.annotations.specs.Annotations.{annotationsAt, Tabled}
 use Rattle.policy.specs.Policy.{policyOf, noRegion, Checked}
 use Rattle.claims.specs.Regions.{regionIn, regionsOf, RegionWords, regionWords}

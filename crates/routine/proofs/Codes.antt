@@ -79,7 +79,6 @@ module _ (bytes : List ℕ) (h : Header) (index i : ℕ) (ei : i ≡ le32 bytes 
 -- ---- the whole code
 
 returns-formed : (n size : ℕ) → AllFormed n (replicate size (record { instruction = Return }))
-unfolding Formed
 returns-formed n size = record { at = λ k other l. let below : k < size = omega (arith, length-replicate {A = Line} size (record { instruction = Return })) in rw (getD-replicate size k (record { instruction = Return }) other below) tt }
 
 set-formed : (n : ℕ) (code : List Line) (index : ℕ) (x : Instruction) → AllFormed n code → Formed n x → AllFormed n (set code index (record { instruction = x }))

@@ -117,7 +117,7 @@ module _ (n d a b i : ℕ) (w : i < 2 ^ 32) where
 
   -- the rows of the table, in its order
   each-formed : EachFormed operations
-  unfolding targetInside targetOf Formed
+  unfolding targetInside targetOf
   each-formed =
       row _ (Set d i) (λ t z. (ltb-true d registerCount (three _ _ _ t .0), w))
       then row _ (Add d a b) (λ t z. three-registers _ t)

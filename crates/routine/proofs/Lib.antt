@@ -1,5 +1,4 @@
 pub mod Lists
-pub mod Headers
 pub mod Decoding
 pub mod Codes
 pub mod Facts

@@ -51,7 +51,7 @@ instructionAt bytes h index = do
   value instruction
 
 -- the registers are among the sixteen, the immediate is a word, and a jump's target is below n
-unfoldable pub Formed : (n : ℕ) → Instruction → Type 0
+abbrev pub Formed : (n : ℕ) → Instruction → Type 0
 Formed n (Set d i) = (d < registerCount) × (i < 2 ^ 32)
 Formed n (Add d a b) = (d < registerCount) × (a < registerCount) × (b < registerCount)
 Formed n (AddImmediate d a i) = (d < registerCount) × (a < registerCount) × (i < 2 ^ 32)

@@ -7,7 +7,7 @@ ghost use mathlib.Core.Path.{_≡_};
 ghost use Prim.Native.Nat.{_<_};
 ghost use Rattle.model.specs.Instruction.{decode, targetOf, targetInside};
 ghost use Rattle.model.specs.Package.{readCode};
-ghost use Rattle.routine.specs.Headers.{Fits};
+ghost use Rattle.header.specs.Headers.{Fits};
 ghost use Rattle.routine.specs.Code.{decodedOf, targetOption, InstructionRead, codeChecked, CodeMet};
 
 // The number of a register is below this.

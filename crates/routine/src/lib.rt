@@ -1,4 +1,2 @@
-// The package: header, proof section, instructions.
-pub mod finder;
-pub mod header;
+// The code of a package: its instructions.
 pub mod instructions;

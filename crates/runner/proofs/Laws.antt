@@ -21,15 +21,15 @@ use Rattle.model.specs.declared.Region.{Region}
 use Rattle.policy.specs.declared.PolicyAnswer.the-variants as policies
 use Rattle.policy.specs.declared.PolicyRead.{PolicyRead}
 use Rattle.policy.specs.Policy.{policyOf, PolicyReads, policy-passed, policy-refused}
-use Rattle.routine.specs.declared.header.HeaderAnswer.{HeaderAnswer}
-use Rattle.routine.specs.declared.header.HeaderAnswer.the-variants as headers
+use Rattle.header.specs.declared.HeaderAnswer.{HeaderAnswer}
+use Rattle.header.specs.declared.HeaderAnswer.the-variants as headers
 use Rattle.routine.specs.declared.instructions.CodeAnswer.the-variants as codes
 use Rattle.routine.specs.declared.instructions.CodeRead.{CodeRead}
-use Rattle.routine.specs.Headers.{Fits, HeaderRead}
+use Rattle.header.specs.Headers.{Fits, HeaderRead}
 use Rattle.routine.specs.Code.{instructionsOf, codeOfLines, codeResult, CodeMet}
-use Rattle.routine.proofs.Headers.{passed, stopped}
-use Rattle.machine.specs.Counted.{Counted, counted}
-use Rattle.machine.specs.Run.{Runnable, Ran}
+use Rattle.header.proofs.Headers.{passed, stopped}
+use Rattle.runs.specs.Counted.{Counted, counted}
+use Rattle.runs.specs.Run.{Runnable, Ran}
 use Rattle.runner.specs.Checks.{refusalOutcome, runOrRefuse, PackageRun, Runs}
 
 -- ---- the package

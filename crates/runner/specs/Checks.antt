@@ -14,7 +14,7 @@ use Rattle.model.specs.declared.Outcome.{Outcome}
 use Rattle.model.specs.declared.Refusal.{Refusal}
 use Rattle.model.specs.declared.Region.{Region}
 use Rattle.machine.specs.Step.{Under}
-use Rattle.machine.specs.Counted.{Counted}
+use Rattle.runs.specs.Counted.{Counted}
 
 -- the answer of a run that a check refuses
 abbrev pub refusalOutcome : Refusal → Outcome

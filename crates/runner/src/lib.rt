@@ -1,11 +1,11 @@
 // The runner: checks 3 to 6, 2, 7, 8, 9, and then the machine's run.
+use header::HeaderAnswer;
 use limits::MOST_REGIONS;
 use limits::REGISTERS;
 use model::Outcome;
 use model::Refusal;
 use model::Region;
 use policy::PolicyAnswer;
-use routine::header::HeaderAnswer;
 use routine::instructions::CodeAnswer;
 ghost use mathlib.Core.Path.{_≡_};
 ghost use Prim.Native.Nat.{_≤_};
@@ -37,7 +37,7 @@ fn run_package(
     requires { ⌜ (count ≤ mostRegions) × (length (now registers) ≡ registerCount) ⌝ }
     ensures { λ r. ⌜ PackageRun (take count regions) (now (bytes .entry)) (now (registers .entry)) (now (memory .entry)) budget r (now (registers .exit)) (now (memory .exit)) ⌝ }
 {
-    let header = match routine::header::read_header(bytes) {
+    let header = match header::read_header(bytes) {
         HeaderAnswer::Passed(header) => header,
         HeaderAnswer::Refused(refusal) => return refused(refusal),
     };
@@ -47,7 +47,7 @@ fn run_package(
         return refused(refusal);
     }
     let code = read.code;
-    machine::run_code(
+    runs::run_code(
         code,
         header.instructions,
         regions,

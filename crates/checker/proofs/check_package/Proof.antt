@@ -1,6 +1,6 @@
 use borrow.Author.Needs.{needs}
 use Rattle.checker.proofs.Laws as laws
-use Rattle.routine.proofs.Headers.{passed}
+use Rattle.header.proofs.Headers.{passed}
 use Rattle.checker.proofs.check_package.Statement.{statement}
 use Rattle.checker.proofs.check_package.Tie as tie
 

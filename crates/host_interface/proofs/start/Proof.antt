@@ -1,4 +1,4 @@
-use Rattle.routine.proofs.Headers.{passed, proof-part, no-part}
+use Rattle.header.proofs.Headers.{passed, proof-part, no-part}
 use native.Mathlib.Omega.{arith}
 use borrow.Author.Needs.{needs}
 use Rattle.host_interface.proofs.start.Statement.{statement}

@@ -1,4 +1,4 @@
-use Rattle.routine.proofs.Headers.{passed}
+use Rattle.header.proofs.Headers.{passed}
 use Rattle.runner.proofs.Laws as laws
 use borrow.Author.Needs.{needs}
 use Rattle.runner.proofs.run_package.Statement.{statement}

@@ -1,6 +1,5 @@
 use native.Mathlib.Omega.{arith}
 use Rattle.annotations.proofs.Annotations.{no-index, bad-index, no-count, bad-count, whole, no-body, bad-body}
-use native.Mathlib.Omega.{arith}
 use borrow.Author.Needs.{needs}
 use Rattle.annotations.proofs.reading.annotation.Statement.{statement}
 use Rattle.annotations.proofs.reading.annotation.Tie as tie
@@ -39,7 +38,7 @@ add-t21 : tie.Need-add-t21
 add-t21 c = search needs
 
 returns-4 : tie.Need-returns-4
-returns-4 c = bad-count _ _ _ _ _ (c .before .before .before .before .before .before .before .before .proof-start .ensures) (omega arith) _ (c .before .before .before .before .before .before .half .ensures .0) (c .before .before .before .before .if2 .left) (omega arith) _ (c .before .wide-byte .ensures) (c .if4 .taken)
+returns-4 c = bad-count _ _ _ _ _ (c .before .before .before .before .before .before .before .before .proof-start .ensures) (omega arith) _ (c .before .before .before .before .before .before .half .ensures .0) (c .before .before .before .before .if2 .left) (omega arith) _ (c .before .wide-byte .ensures) (omega arith)
 
 add-body : tie.Need-add-body
 add-body c = search needs

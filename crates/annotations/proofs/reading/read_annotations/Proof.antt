@@ -79,7 +79,7 @@ same-length-4 : tie.Need-same-length-4 Inv-loop μ-loop
 same-length-4 c = search needs
 
 returns-2 : tie.Need-returns-2 Inv-loop μ-loop
-returns-2 c = note-spare _ _ _ _ _ _ _ (c .before .before .before .loop .inv) (c .before .before .before .before .before .before .before .before .before .pre .0 .noted) (c .before .if1 .left) _ (c .before .before .before .before .before .proof-start .ensures) (c .if2 .taken)
+returns-2 c = note-spare _ _ _ _ _ _ _ (c .before .before .before .loop .inv) (c .before .before .before .before .before .before .before .before .before .pre .0 .noted) (c .before .if1 .left) _ (c .before .before .before .before .before .proof-start .ensures) (λ e. omega arith)
 
 same-length-5 : tie.Need-same-length-5 Inv-loop μ-loop
 same-length-5 c = search needs
