@@ -21,11 +21,10 @@ use Rattle.goals.specs.declared.Judged.the-variants.{Next as Judged-on, Refused
 use Rattle.moves.specs.declared.Moved.{Moved}
 use Rattle.moves.specs.declared.MovedAnswer.the-variants.{On, Refused}
 use Rattle.goals.specs.Judging.{Reached, ReachedAfter, Judges}
-use Rattle.paths.specs.Walking.{pathOf, raisedTo, ClaimIn, PathIn, steppedTo, writtenTo, oneVariable, Kept}
+use Rattle.paths.specs.Walking.{pathOf, raisedTo, NodeIn, PathIn, steppedTo, writtenTo, oneVariable, Kept}
 use Rattle.goals.specs.Room.{Going, derivationRoom}
-use Rattle.claims.specs.declared.Claim.the-variants.{Readable, Writable}
 use Rattle.claims.specs.Regions.{RegionWords}
-use Rattle.goals.specs.Settling.{GoalJudged}
+use Rattle.goals.specs.Settling.{Left, GoalJudged}
 use Rattle.moves.specs.Moves.{RoomFor, Built, Advanced, MoveJudged, Accesses, Loads}
 use Rattle.moves.proofs.Moving.{move-on, move-stopped}
 use Rattle.paths.proofs.Kept.{kept-none, kept-same, kept-then, path-held, path-equal}
@@ -81,20 +80,23 @@ address-going {us = us} {bytes} {words} {number = number} {p = p} g v h long b f
     subst (λ q. Going us words bytes number derivationRoom q p) (sym e)
     (record { inside = b .path-in; regions = v; space = record { words = omega (arith, g .words); fits = omega (arith, g .nodes) }; reached = h })
 
-module _ {ws us : List ℕ} {path raised : Path} {count node : ℕ} {t : Term} (b : Built ws us path count node t) (e : raised ≡ raisedTo path (path .top + count)) where
-  pub readable-in : ClaimIn us raised (Readable node)
-  readable-in = rw e (record { below = b .node-in .below; bound = b .node-in .bound })
+pub address-in : {ws us : List ℕ} {path raised : Path} {count node : ℕ} {t : Term} → Built ws us path count node t → raised ≡ raisedTo path (path .top + count) → NodeIn us raised node
+address-in b e = rw e (b .node-in)
 
-  pub writable-in : ClaimIn us raised (Writable node)
-  writable-in = rw e (record { below = b .node-in .below; bound = b .node-in .bound })
+-- what is kept once it is derived
+pub kept-address : {ws us vs bytes : List ℕ} {path raised : Path} {count node : ℕ} {t : Term} {r : Judged} → RoomFor ws path 1 → Built ws us path count node t → raised ≡ raisedTo path (path .top + count)
+    → Left us vs bytes (raised .top) r → Kept ws vs path
+kept-address {us = us} {vs} {bytes} {path} {count = count} {r = r} g b e l =
+    let k : Left us vs bytes (path .top + count) r = subst (λ (q : Path). Left us vs bytes (q .top) r) e l in
+    kept-same path (g .path-in .prepared 0 .assumed .few) (same-trans (b .same) (same-within 0 (place (path .top)) (omega arith) (omega arith) (k .kept)))
 
 module _ {ws us vs bytes : List ℕ} {regions : List Region} {path raised : Path} {count node : ℕ} {t : Term} {p : Progress} {r : Judged} (g : RoomFor ws path 1) (claim : Term → Claim)
     (b : Built ws us path count node t) (is-raised : raised ≡ raisedTo path (path .top + count)) (j : GoalJudged us vs bytes regions (raised .top) (pathOf us raised) p r (claim (termAt us node))) where
   the-goal : GoalJudged us vs bytes regions (path .top + count) (pathOf us path) p r (claim (termAt us node))
   the-goal = subst (λ q. GoalJudged us vs bytes regions (q .top) (pathOf us q) p r (claim (termAt us node))) is-raised j
 
-  pub kept-address : Kept ws vs path
-  kept-address = kept-same path (g .path-in .prepared 0 .assumed .few) (same-trans (b .same) (same-within 0 (place (path .top)) (omega arith) (omega arith) (the-goal .left .kept)))
+  kept-there : Kept ws vs path
+  kept-there = kept-address g b is-raised (j .left)
 
   address-judged : (policy : Policy) → policy .regions ≡ regions → {s : Judged} → r ≡ s → Judges bytes policy (goalOf (pathOf ws path) (claim t) ∷ []) p s
   address-judged policy e f =
@@ -105,7 +107,7 @@ module _ {ws us vs bytes : List ℕ} {regions : List Region} {path raised : Path
 
   pub access-refused : {x : Refusal} {derived : ℕ} {after : Path} (s : ModelPath) → r ≡ Judged-refused x derived
       → Accesses ws vs bytes regions (goes (goalOf (pathOf ws path) (claim t) ∷ []) s) path p (record { path = after; answer = Refused x derived })
-  access-refused s e = record { moves = λ credit. record { judged = λ policy routine h. move-stopped _ s (address-judged policy h e); kept = kept-address; leads = tt } }
+  access-refused s e = record { moves = λ credit. record { judged = λ policy routine h. move-stopped _ s (address-judged policy h e); kept = kept-there; leads = tt } }
 
   module _ {q : Progress} (e : r ≡ Judged-on q) where
     access-goes : {xs : List ℕ} {after : Path} (s : ModelPath) → pathOf xs after ≡ s → Kept vs xs path → Advanced xs path after
@@ -113,7 +115,7 @@ module _ {ws us vs bytes : List ℕ} {regions : List Region} {path raised : Path
     access-goes {xs} {after} s means k a = record {
       moves = λ credit. record {
         judged = λ policy routine h. subst (λ (u : ModelPath). MoveJudged bytes policy routine credit (goes (goalOf (pathOf ws path) (claim t) ∷ []) u) p (pathOf xs after) (On q)) means (move-on _ (address-judged policy h e));
-        kept = kept-then kept-address k;
+        kept = kept-then kept-there k;
         leads = (a, subst (ReachedAfter bytes) e (the-goal .left .reached));
       };
     }
@@ -121,8 +123,8 @@ module _ {ws us vs bytes : List ℕ} {regions : List Region} {path raised : Path
     pub store-goes : {after : Path} → length vs ≡ length ws → after ≡ steppedTo path (path .counter + 1)
         → Accesses ws vs bytes regions (goes (goalOf (pathOf ws path) (claim t) ∷ []) (onward (pathOf ws path))) path p (record { path = after; answer = On q })
     store-goes {after} long h =
-        let inside : PathIn vs path = path-held kept-address (g .path-in) long in
-        let same : pathOf vs path ≡ pathOf ws path = path-equal kept-address (g .path-in) in
+        let inside : PathIn vs path = path-held kept-there (g .path-in) long in
+        let same : pathOf vs path ≡ pathOf ws path = path-equal kept-there (g .path-in) in
         subst (λ (x : Path). Accesses ws vs bytes regions (goes (goalOf (pathOf ws path) (claim t) ∷ []) (onward (pathOf ws path))) path p (record { path = x; answer = On q })) (sym h)
         (access-goes (onward (pathOf ws path)) (ap (λ (s : ModelPath). onward s) same) (kept-none path) (record {
           path-in = path-stepped inside (path .counter + 1) (omega (arith, g .run));
@@ -137,6 +139,6 @@ module _ {ws us vs bytes : List ℕ} {regions : List Region} {path raised : Path
 
     pub load-goes : {xs : List ℕ} {d : ℕ} {m : Moved} → Loads vs xs path d q m → Accesses ws xs bytes regions (goes (goalOf (pathOf ws path) (claim t) ∷ []) (onward (loading (pathOf ws path) d))) path p m
     load-goes {xs} {d} {m} l =
-        let same : pathOf vs path ≡ pathOf ws path = path-equal kept-address (g .path-in) in
+        let same : pathOf vs path ≡ pathOf ws path = path-equal kept-there (g .path-in) in
         subst (λ (x : Moved). Accesses ws xs bytes regions (goes (goalOf (pathOf ws path) (claim t) ∷ []) (onward (loading (pathOf ws path) d))) path p x) (ap (λ x. record { path = m .path; answer = x }) (sym (l .goes-on)))
         (access-goes (onward (loading (pathOf ws path) d)) (l .means ∙ ap (λ (s : ModelPath). onward (loading s d)) same) (kept-same path (g .path-in .prepared 0 .assumed .few) (l .same)) (l .advanced))

@@ -1,10 +1,11 @@
+use native.Mathlib.Omega.{arith}
 use borrow.Author.Needs.{needs}
 use Rattle.blocks.proofs.assuming.Statement.{statement}
 use Rattle.blocks.proofs.assuming.Tie as tie
 use Rattle.blocks.proofs.Starting.{assumed}
 
 push-requires : tie.Need-push-requires
-push-requires c κs = (c .before .before .pre .1 .0, (c .before .before .pre .0 .prepared 0 .assumed, c .before .before .pre .1 .1))
+push-requires c κs = let b = c .before .before .pre .1 .1 in (c .before .before .pre .1 .0, (c .before .before .pre .0 .prepared 0 .assumed, (omega (arith, b .0, b .1), omega (arith, b .0, b .1))))
 
 add-path : tie.Need-add-path
 add-path c = search needs

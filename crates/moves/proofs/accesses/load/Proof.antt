@@ -3,7 +3,7 @@ use borrow.Author.Needs.{needs}
 use mathlib.Core.Path.{_∙_}
 use Rattle.model.specs.Goals.{readable}
 use Rattle.moves.proofs.PathLaws.{room-kept}
-use Rattle.moves.proofs.Accessing.{address-going, readable-in, kept-address, load-goes, access-refused}
+use Rattle.moves.proofs.Accessing.{address-going, address-in, kept-address, load-goes, access-refused}
 use Rattle.moves.proofs.accesses.load.Statement.{statement}
 use Rattle.moves.proofs.accesses.load.Tie as tie
 
@@ -20,13 +20,13 @@ add-t19 : tie.Need-add-t19
 add-t19 c = search needs
 
 goal-requires : tie.Need-goal-requires
-goal-requires c κs = (address-going (c .before .before .before .before .before .before .before .before .before .pre .1 .1 .0) (c .before .before .before .before .before .before .before .before .before .pre .1 .0) (c .before .before .before .before .before .before .before .before .before .pre .1 .1 .1) (c .before .before .before .before .put-sum-with .kept .0) (c .before .before .before .before .put-sum-with .ensures) (omega arith) (c .before .raised .ensures), readable-in (c .before .before .before .before .put-sum-with .ensures) (c .before .raised .ensures))
+goal-requires c κs = let n = address-in (c .before .before .before .before .put-sum-with .ensures) (c .before .raised .ensures) in (address-going (c .before .before .before .before .before .before .before .before .before .pre .1 .1 .0) (c .before .before .before .before .before .before .before .before .before .pre .1 .0) (c .before .before .before .before .before .before .before .before .before .pre .1 .1 .1) (c .before .before .before .before .put-sum-with .kept .0) (c .before .before .before .before .put-sum-with .ensures) (omega arith) (c .before .raised .ensures), record { below = n .below; bound = n .bound })
 
 enum-known-judged : tie.Need-enum-known-judged
 enum-known-judged c = search needs
 
 loaded-requires : tie.Need-loaded-requires
-loaded-requires c κs = (c .before .before .before .before .before .before .before .before .before .before .before .before .before .before .before .before .pre .0 .0, room-kept (kept-address (c .before .before .before .before .before .before .before .before .before .before .before .before .before .before .before .before .pre .1 .1 .0) readable (c .before .before .before .before .before .before .before .before .before .before .before .put-sum-with .ensures) (c .before .before .before .before .before .before .before .before .raised .ensures) (c .before .before .before .before .before .before .goal .ensures)) (c .before .before .before .before .before .before .goal .kept .1 .1 .1 .0 ∙ c .before .before .before .before .before .before .before .before .before .before .before .put-sum-with .kept .0) (c .before .before .before .before .before .before .before .before .before .before .before .before .before .before .before .before .pre .1 .1 .0))
+loaded-requires c κs = (c .before .before .before .before .before .before .before .before .before .before .before .before .before .before .before .before .pre .0 .0, room-kept (kept-address (c .before .before .before .before .before .before .before .before .before .before .before .before .before .before .before .before .pre .1 .1 .0) (c .before .before .before .before .before .before .before .before .before .before .before .put-sum-with .ensures) (c .before .before .before .before .before .before .before .before .raised .ensures) (c .before .before .before .before .before .before .goal .ensures .left)) (c .before .before .before .before .before .before .goal .kept .1 .1 .1 .0 ∙ c .before .before .before .before .before .before .before .before .before .before .before .put-sum-with .kept .0) (c .before .before .before .before .before .before .before .before .before .before .before .before .before .before .before .before .pre .1 .1 .0))
 
 enum-known-judged-2 : tie.Need-enum-known-judged-2
 enum-known-judged-2 c = search needs

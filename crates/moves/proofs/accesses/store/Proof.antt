@@ -2,7 +2,7 @@ use native.Mathlib.Omega.{arith}
 use borrow.Author.Needs.{needs}
 use mathlib.Core.Path.{_∙_}
 use Rattle.model.specs.Goals.{writable}
-use Rattle.moves.proofs.Accessing.{address-going, writable-in, store-goes, access-refused}
+use Rattle.moves.proofs.Accessing.{address-going, address-in, store-goes, access-refused}
 use Rattle.moves.proofs.accesses.store.Statement.{statement}
 use Rattle.moves.proofs.accesses.store.Tie as tie
 
@@ -19,7 +19,7 @@ add-t18 : tie.Need-add-t18
 add-t18 c = search needs
 
 goal-requires : tie.Need-goal-requires
-goal-requires c κs = (address-going (c .before .before .before .before .before .before .before .before .before .pre .1 .1 .0) (c .before .before .before .before .before .before .before .before .before .pre .1 .0) (c .before .before .before .before .before .before .before .before .before .pre .1 .1 .1) (c .before .before .before .before .put-sum-with .kept .0) (c .before .before .before .before .put-sum-with .ensures) (omega arith) (c .before .raised .ensures), writable-in (c .before .before .before .before .put-sum-with .ensures) (c .before .raised .ensures))
+goal-requires c κs = let n = address-in (c .before .before .before .before .put-sum-with .ensures) (c .before .raised .ensures) in (address-going (c .before .before .before .before .before .before .before .before .before .pre .1 .1 .0) (c .before .before .before .before .before .before .before .before .before .pre .1 .0) (c .before .before .before .before .before .before .before .before .before .pre .1 .1 .1) (c .before .before .before .before .put-sum-with .kept .0) (c .before .before .before .before .put-sum-with .ensures) (omega arith) (c .before .raised .ensures), record { below = n .below; bound = n .bound })
 
 enum-known-judged : tie.Need-enum-known-judged
 enum-known-judged c = search needs
