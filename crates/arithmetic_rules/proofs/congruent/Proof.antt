@@ -5,18 +5,6 @@ use Rattle.model.specs.Rule.{premises}
 use Rattle.arithmetic_rules.proofs.congruent.Statement.{statement}
 use Rattle.arithmetic_rules.proofs.congruent.Tie as tie
 
-sides-requires : tie.Need-sides-requires
-sides-requires c κs = search needs
-
-enum-known-left : tie.Need-enum-known-left
-enum-known-left c = search needs
-
-enum-told : tie.Need-enum-told
-enum-told c = search needs
-
-unfit-requires : tie.Need-unfit-requires
-unfit-requires c κs = search needs
-
 returns : tie.Need-returns
 unfolding premises
 returns c = no-sides _ (c .before .before .before .before .before .pre .0) (sides-told (c .before .before .before .sides .ensures) (c .before .enum-told .given .1)) (c .unfit .ensures)
@@ -24,27 +12,9 @@ returns c = no-sides _ (c .before .before .before .before .before .pre .0) (side
 same-operation-requires : tie.Need-same-operation-requires
 same-operation-requires c κs = let j = sides-told (c .before .before .before .sides .ensures) (c .before .left .given .1) .below _ (c .before .before .before .before .before .pre .1) in (formed-at (c .before .before .before .before .before .pre .0) (j .0), formed-at (c .before .before .before .before .before .pre .0) (j .1))
 
-enum-known-a : tie.Need-enum-known-a
-enum-known-a c = search needs
-
-enum-told-2 : tie.Need-enum-told-2
-enum-told-2 c = search needs
-
-unfit-requires-2 : tie.Need-unfit-requires-2
-unfit-requires-2 c κs = search needs
-
 returns-2 : tie.Need-returns-2
 unfolding premises
 returns-2 c = no-parts _ _ (c .before .before .before .before .before .before .before .before .before .pre .0) (sides-told (c .before .before .before .before .before .before .before .sides .ensures) (c .before .before .before .before .before .left .given .1)) (four-told (c .before .before .before .same-operation .ensures) (c .before .enum-told2 .given .1) .is) (c .unfit2 .ensures)
-
-compared-requires : tie.Need-compared-requires
-compared-requires c κs = search needs
-
-compared-requires-2 : tie.Need-compared-requires-2
-compared-requires-2 c κs = search needs
-
-two-requires : tie.Need-two-requires
-two-requires c κs = search needs
 
 returns-3 : tie.Need-returns-3
 returns-3 c = congruence-fits (c .before .before .before .before .before .before .before .before .before .before .before .before .pre .0) (c .before .before .before .before .before .before .before .before .before .before .before .before .pre .1) (sides-told (c .before .before .before .before .before .before .before .before .before .before .sides .ensures) (c .before .before .before .before .before .before .before .before .left .given .1)) (four-told (c .before .before .before .before .before .before .same-operation .ensures) (c .before .before .before .before .a .given .1)) (c .before .before .compared .ensures) (c .before .compared2 .ensures) (c .two .ensures)
@@ -53,17 +23,17 @@ pub congruent-spec : {M : Type 1} → statement M
 congruent-spec =
     tie.close
     (tie.spec
-    sides-requires
-    enum-known-left
-    enum-told
-    unfit-requires
+    (λ c κs. search needs)
+    (λ c. search needs)
+    (λ c. search needs)
+    (λ c κs. search needs)
     returns
     same-operation-requires
-    enum-known-a
-    enum-told-2
-    unfit-requires-2
+    (λ c. search needs)
+    (λ c. search needs)
+    (λ c κs. search needs)
     returns-2
-    compared-requires
-    compared-requires-2
-    two-requires
+    (λ c κs. search needs)
+    (λ c κs. search needs)
+    (λ c κs. search needs)
     returns-3)

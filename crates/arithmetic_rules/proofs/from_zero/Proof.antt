@@ -5,30 +5,12 @@ use Rattle.model.specs.Rule.{premises}
 use Rattle.arithmetic_rules.proofs.from_zero.Statement.{statement}
 use Rattle.arithmetic_rules.proofs.from_zero.Tie as tie
 
-sides-requires : tie.Need-sides-requires
-sides-requires c κs = search needs
-
-enum-known-zero : tie.Need-enum-known-zero
-enum-known-zero c = search needs
-
-enum-told : tie.Need-enum-told
-enum-told c = search needs
-
-unfit-requires : tie.Need-unfit-requires
-unfit-requires c κs = search needs
-
 returns : tie.Need-returns
 unfolding premises
 returns c = no-sides _ (c .before .before .before .before .before .pre .0) (sides-told (c .before .before .before .sides .ensures) (c .before .enum-told .given .1)) (c .unfit .ensures)
 
 is-constant-requires : tie.Need-is-constant-requires
 is-constant-requires c κs = formed-at (c .before .before .before .before .before .pre .0) (sides-told (c .before .before .before .sides .ensures) (c .before .zero .given .1) .below _ (c .before .before .before .before .before .pre .1) .0)
-
-none-requires : tie.Need-none-requires
-none-requires c κs = search needs
-
-unfit-requires-2 : tie.Need-unfit-requires-2
-unfit-requires-2 c κs = search needs
 
 returns-2 : tie.Need-returns-2
 unfolding premises
@@ -42,13 +24,13 @@ pub from-zero-spec : {M : Type 1} → statement M
 from-zero-spec =
     tie.close
     (tie.spec
-    sides-requires
-    enum-known-zero
-    enum-told
-    unfit-requires
+    (λ c κs. search needs)
+    (λ c. search needs)
+    (λ c. search needs)
+    (λ c κs. search needs)
     returns
     is-constant-requires
-    none-requires
-    unfit-requires-2
+    (λ c κs. search needs)
+    (λ c κs. search needs)
     returns-2
     returns-3)

@@ -5,33 +5,12 @@ use Rattle.arithmetic_rules.specs.Monotone.{monotonePremises}
 use Rattle.arithmetic_rules.proofs.monotone.Statement.{statement}
 use Rattle.arithmetic_rules.proofs.monotone.Tie as tie
 
-sides-requires : tie.Need-sides-requires
-sides-requires c κs = search needs
-
-enum-known-left : tie.Need-enum-known-left
-enum-known-left c = search needs
-
-enum-told : tie.Need-enum-told
-enum-told c = search needs
-
-unfit-requires : tie.Need-unfit-requires
-unfit-requires c κs = search needs
-
 returns : tie.Need-returns
 unfolding monotonePremises
 returns c = no-sides _ (c .before .before .before .before .before .pre .0) (sides-told (c .before .before .before .sides .ensures) (c .before .enum-told .given .1)) (c .unfit .ensures)
 
 operands-requires : tie.Need-operands-requires
 operands-requires c κs = formed-at (c .before .before .before .before .before .pre .0) (sides-told (c .before .before .before .sides .ensures) (c .before .left .given .1) .below _ (c .before .before .before .before .before .pre .1) .0)
-
-enum-known-a : tie.Need-enum-known-a
-enum-known-a c = search needs
-
-enum-told-2 : tie.Need-enum-told-2
-enum-told-2 c = search needs
-
-unfit-requires-2 : tie.Need-unfit-requires-2
-unfit-requires-2 c κs = search needs
 
 returns-2 : tie.Need-returns-2
 unfolding monotonePremises
@@ -40,45 +19,9 @@ returns-2 c = no-parts _ _ (c .before .before .before .before .before .before .b
 operands-requires-2 : tie.Need-operands-requires-2
 operands-requires-2 c κs = formed-at (c .before .before .before .before .before .before .before .before .before .pre .0) (sides-told (c .before .before .before .before .before .before .before .sides .ensures) (c .before .before .before .before .before .left .given .1) .below _ (c .before .before .before .before .before .before .before .before .before .pre .1) .1)
 
-enum-known-c : tie.Need-enum-known-c
-enum-known-c c = search needs
-
-enum-told-3 : tie.Need-enum-told-3
-enum-told-3 c = search needs
-
-unfit-requires-3 : tie.Need-unfit-requires-3
-unfit-requires-3 c κs = search needs
-
 returns-3 : tie.Need-returns-3
 unfolding monotonePremises
 returns-3 c = no-more-parts _ _ _ (c .before .before .before .before .before .before .before .before .before .before .before .before .before .pre .0) (sides-told (c .before .before .before .before .before .before .before .before .before .before .before .sides .ensures) (c .before .before .before .before .before .before .before .before .before .left .given .1)) (operands-told (c .before .before .before .before .before .before .before .operands .ensures) (c .before .before .before .before .before .a .given .1) .is) (operands-told (c .before .before .before .operands2 .ensures) (c .before .enum-told3 .given .1) .is) (c .unfit3 .ensures)
-
-compared-requires : tie.Need-compared-requires
-compared-requires c κs = search needs
-
-enum-told-4 : tie.Need-enum-told-4
-enum-told-4 c = search needs
-
-compared-requires-2 : tie.Need-compared-requires-2
-compared-requires-2 c κs = search needs
-
-compared-requires-3 : tie.Need-compared-requires-3
-compared-requires-3 c κs = search needs
-
-three-requires : tie.Need-three-requires
-three-requires c κs = search needs
-
-enum-told-5 : tie.Need-enum-told-5
-enum-told-5 c = search needs
-
-compared-requires-4 : tie.Need-compared-requires-4
-compared-requires-4 c κs = search needs
-
-compared-requires-5 : tie.Need-compared-requires-5
-compared-requires-5 c κs = search needs
-
-three-requires-2 : tie.Need-three-requires-2
-three-requires-2 c κs = search needs
 
 returns-4 : tie.Need-returns-4
 returns-4 c = sums-fits (c .before .before .before .before .before .before .before .before .before .before .before .before .before .before .before .before .before .before .before .pre .0) (c .before .before .before .before .before .before .before .before .before .before .before .before .before .before .before .before .before .before .before .pre .1) (sides-told (c .before .before .before .before .before .before .before .before .before .before .before .before .before .before .before .before .before .sides .ensures) (c .before .before .before .before .before .before .before .before .before .before .before .before .before .before .before .left .given .1)) (operands-told (c .before .before .before .before .before .before .before .before .before .before .before .before .before .operands .ensures) (c .before .before .before .before .before .before .before .before .before .before .before .a .given .1)) (operands-told (c .before .before .before .before .before .before .before .before .before .operands2 .ensures) (c .before .before .before .before .before .before .before .c .given .1)) (c .before .before .before .before .before .compared .ensures) (c .before .before .before .enum-told4 .given .1) (c .before .before .compared2 .ensures) (c .before .compared3 .ensures) (c .three .ensures)
@@ -90,29 +33,29 @@ pub monotone-spec : {M : Type 1} → statement M
 monotone-spec =
     tie.close
     (tie.spec
-    sides-requires
-    enum-known-left
-    enum-told
-    unfit-requires
+    (λ c κs. search needs)
+    (λ c. search needs)
+    (λ c. search needs)
+    (λ c κs. search needs)
     returns
     operands-requires
-    enum-known-a
-    enum-told-2
-    unfit-requires-2
+    (λ c. search needs)
+    (λ c. search needs)
+    (λ c κs. search needs)
     returns-2
     operands-requires-2
-    enum-known-c
-    enum-told-3
-    unfit-requires-3
+    (λ c. search needs)
+    (λ c. search needs)
+    (λ c κs. search needs)
     returns-3
-    compared-requires
-    enum-told-4
-    compared-requires-2
-    compared-requires-3
-    three-requires
-    enum-told-5
-    compared-requires-4
-    compared-requires-5
-    three-requires-2
+    (λ c κs. search needs)
+    (λ c. search needs)
+    (λ c κs. search needs)
+    (λ c κs. search needs)
+    (λ c κs. search needs)
+    (λ c. search needs)
+    (λ c κs. search needs)
+    (λ c κs. search needs)
+    (λ c κs. search needs)
     returns-4
     returns-5)

@@ -9,36 +9,12 @@ use Rattle.terms.proofs.Table.{part}
 use Rattle.arithmetic_rules.proofs.no_overflow.Statement.{statement}
 use Rattle.arithmetic_rules.proofs.no_overflow.Tie as tie
 
-sides-requires : tie.Need-sides-requires
-sides-requires c κs = search needs
-
-enum-known-a : tie.Need-enum-known-a
-enum-known-a c = search needs
-
-enum-told : tie.Need-enum-told
-enum-told c = search needs
-
-unfit-requires : tie.Need-unfit-requires
-unfit-requires c κs = search needs
-
 returns : tie.Need-returns
 unfolding premises
 returns c = no-sides _ (c .before .before .before .before .before .pre .0) (sides-told (c .before .before .before .sides .ensures) (c .before .enum-told .given .1)) (c .unfit .ensures)
 
 operands-requires : tie.Need-operands-requires
 operands-requires c κs = formed-at (c .before .before .before .before .before .before .pre .0) (sides-told (c .before .before .before .before .sides .ensures) (c .before .before .a .given .1) .below _ (c .before .before .before .before .before .before .pre .1 .1) .1)
-
-enum-known-p : tie.Need-enum-known-p
-enum-known-p c = search needs
-
-enum-told-2 : tie.Need-enum-told-2
-enum-told-2 c = search needs
-
-unfit-requires-2 : tie.Need-unfit-requires-2
-unfit-requires-2 c κs = search needs
-
-same-length : tie.Need-same-length
-same-length c = search needs
 
 returns-2 : tie.Need-returns-2
 unfolding premises
@@ -47,38 +23,14 @@ returns-2 c = no-parts _ _ (c .before .before .before .before .before .before .b
 same-requires : tie.Need-same-requires
 same-requires c κs = let j = sides-told (c .before .before .before .before .before .before .before .before .before .sides .ensures) (c .before .before .before .before .before .before .before .a .given .1) .below _ (c .before .before .before .before .before .before .before .before .before .before .before .pre .1 .1) in (formed-at (c .before .before .before .before .before .before .before .before .before .before .before .pre .0) (j .0), part (formed-at (c .before .before .before .before .before .before .before .before .before .before .before .pre .0) (j .1)) (operands-told (c .before .before .before .before .operands .ensures) (c .before .before .p .given .1) .below .0))
 
-put-constant-requires : tie.Need-put-constant-requires
-put-constant-requires c κs = search needs
-
-add-put-difference : tie.Need-add-put-difference
-add-put-difference c = search needs
-
 put-difference-requires : tie.Need-put-difference-requires
 put-difference-requires c κs = put-asks-parts (c .before .before .before .before .before .before .before .before .before .before .before .before .before .before .before .before .before .before .pre .1 .0) (c .before .before .before .put-constant .ensures) (c .before .before .before .put-constant .kept .0) _ _ (omega arith) (omega (arith, operands-told (c .before .before .before .before .before .before .before .before .before .before .before .operands .ensures) (c .before .before .before .before .before .before .before .before .before .p .given .1) .below .1, sides-told (c .before .before .before .before .before .before .before .before .before .before .before .before .before .before .before .before .sides .ensures) (c .before .before .before .before .before .before .before .before .before .before .before .before .before .before .a .given .1) .below _ (c .before .before .before .before .before .before .before .before .before .before .before .before .before .before .before .before .before .before .pre .1 .1) .1))
-
-add-compared : tie.Need-add-compared
-add-compared c = search needs
-
-compared-requires : tie.Need-compared-requires
-compared-requires c κs = search needs
 
 add-one : tie.Need-add-one
 add-one c = omega (arith, c .before .before .before .before .before .before .before .before .before .before .before .before .before .before .before .before .before .before .before .before .before .before .pre .1 .0 .fits)
 
-one-requires : tie.Need-one-requires
-one-requires c κs = search needs
-
-unfit-requires-3 : tie.Need-unfit-requires-3
-unfit-requires-3 c κs = search needs
-
-same-length-2 : tie.Need-same-length-2
-same-length-2 c = search needs
-
 returns-3 : tie.Need-returns-3
 returns-3 c = no-overflow-fits (c .before .before .before .before .before .before .before .before .before .before .before .before .before .before .before .before .before .before .before .before .before .before .before .pre .1 .1) (sides-told (c .before .before .before .before .before .before .before .before .before .before .before .before .before .before .before .before .before .before .before .before .before .sides .ensures) (c .before .before .before .before .before .before .before .before .before .before .before .before .before .before .before .before .before .before .before .a .given .1)) (c .before .before .before .before .before .before .before .before .put-constant .ensures) (operands-told (c .before .before .before .before .before .before .before .before .before .before .before .before .before .before .before .before .operands .ensures) (c .before .before .before .before .before .before .before .before .before .before .before .before .before .before .p .given .1)) (c .before .before .before .before .before .before .before .before .before .before .before .same .ensures) (c .before .before .before .before .before .before .before .before .before .before .if1 .taken) (c .before .before .before .before .put-difference .ensures) refl (c .before .compared .ensures) (c .one .ensures)
-
-same-length-3 : tie.Need-same-length-3
-same-length-3 c = search needs
 
 returns-4 : tie.Need-returns-4
 unfolding premises
@@ -88,27 +40,27 @@ pub no-overflow-spec : {M : Type 1} → statement M
 no-overflow-spec =
     tie.close
     (tie.spec
-    sides-requires
-    enum-known-a
-    enum-told
-    unfit-requires
+    (λ c κs. search needs)
+    (λ c. search needs)
+    (λ c. search needs)
+    (λ c κs. search needs)
     returns
     operands-requires
-    enum-known-p
-    enum-told-2
-    unfit-requires-2
-    same-length
+    (λ c. search needs)
+    (λ c. search needs)
+    (λ c κs. search needs)
+    (λ c. search needs)
     returns-2
     same-requires
-    put-constant-requires
-    add-put-difference
+    (λ c κs. search needs)
+    (λ c. search needs)
     put-difference-requires
-    add-compared
-    compared-requires
+    (λ c. search needs)
+    (λ c κs. search needs)
     add-one
-    one-requires
-    unfit-requires-3
-    same-length-2
+    (λ c κs. search needs)
+    (λ c κs. search needs)
+    (λ c. search needs)
     returns-3
-    same-length-3
+    (λ c. search needs)
     returns-4)

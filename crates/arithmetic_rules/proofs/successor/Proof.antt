@@ -7,18 +7,6 @@ use Rattle.terms.proofs.Table.{part}
 use Rattle.arithmetic_rules.proofs.successor.Statement.{statement}
 use Rattle.arithmetic_rules.proofs.successor.Tie as tie
 
-sides-requires : tie.Need-sides-requires
-sides-requires c κs = search needs
-
-enum-known-left : tie.Need-enum-known-left
-enum-known-left c = search needs
-
-enum-told : tie.Need-enum-told
-enum-told c = search needs
-
-unfit-requires : tie.Need-unfit-requires
-unfit-requires c κs = search needs
-
 returns : tie.Need-returns
 unfolding premises
 returns c = no-sides _ (c .before .before .before .before .before .pre .0) (sides-told (c .before .before .before .sides .ensures) (c .before .enum-told .given .1)) (c .unfit .ensures)
@@ -26,30 +14,12 @@ returns c = no-sides _ (c .before .before .before .before .before .pre .0) (side
 operands-requires : tie.Need-operands-requires
 operands-requires c κs = formed-at (c .before .before .before .before .before .pre .0) (sides-told (c .before .before .before .sides .ensures) (c .before .left .given .1) .below _ (c .before .before .before .before .before .pre .1) .0)
 
-enum-known-a : tie.Need-enum-known-a
-enum-known-a c = search needs
-
-enum-told-2 : tie.Need-enum-told-2
-enum-told-2 c = search needs
-
-unfit-requires-2 : tie.Need-unfit-requires-2
-unfit-requires-2 c κs = search needs
-
 returns-2 : tie.Need-returns-2
 unfolding premises
 returns-2 c = no-parts _ _ (c .before .before .before .before .before .before .before .before .before .pre .0) (sides-told (c .before .before .before .before .before .before .before .sides .ensures) (c .before .before .before .before .before .left .given .1)) (operands-told (c .before .before .before .operands .ensures) (c .before .enum-told2 .given .1) .is) (c .unfit2 .ensures)
 
 is-constant-requires : tie.Need-is-constant-requires
 is-constant-requires c κs = part (formed-at (c .before .before .before .before .before .before .before .before .before .pre .0) (sides-told (c .before .before .before .before .before .before .before .sides .ensures) (c .before .before .before .before .before .left .given .1) .below _ (c .before .before .before .before .before .before .before .before .before .pre .1) .0)) (operands-told (c .before .before .before .operands .ensures) (c .before .a .given .1) .below .1)
-
-compared-requires : tie.Need-compared-requires
-compared-requires c κs = search needs
-
-one-requires : tie.Need-one-requires
-one-requires c κs = search needs
-
-unfit-requires-3 : tie.Need-unfit-requires-3
-unfit-requires-3 c κs = search needs
 
 returns-3 : tie.Need-returns-3
 returns-3 c = successor-fits (c .before .before .before .before .before .before .before .before .before .before .before .before .before .pre .0) (c .before .before .before .before .before .before .before .before .before .before .before .before .before .pre .1) (sides-told (c .before .before .before .before .before .before .before .before .before .before .before .sides .ensures) (c .before .before .before .before .before .before .before .before .before .left .given .1)) (operands-told (c .before .before .before .before .before .before .before .operands .ensures) (c .before .before .before .before .before .a .given .1)) (c .before .before .before .is-constant .ensures) (c .before .before .if1 .taken) (c .before .compared .ensures) (c .one .ensures)
@@ -62,19 +32,19 @@ pub successor-spec : {M : Type 1} → statement M
 successor-spec =
     tie.close
     (tie.spec
-    sides-requires
-    enum-known-left
-    enum-told
-    unfit-requires
+    (λ c κs. search needs)
+    (λ c. search needs)
+    (λ c. search needs)
+    (λ c κs. search needs)
     returns
     operands-requires
-    enum-known-a
-    enum-told-2
-    unfit-requires-2
+    (λ c. search needs)
+    (λ c. search needs)
+    (λ c κs. search needs)
     returns-2
     is-constant-requires
-    compared-requires
-    one-requires
-    unfit-requires-3
+    (λ c κs. search needs)
+    (λ c κs. search needs)
+    (λ c κs. search needs)
     returns-3
     returns-4)

@@ -34,32 +34,17 @@ module _ (t : ℕ) where
   atom-requires : lts.Need-atom-requires (R t) (given t) it.Post
   atom-requires c κs = ((c .before .before .before .before .before .pre .1 .0, omega arith), path-ready atomNodes (omega (arith, c .before .before .if1 .left)) (c .before .before .before .before .before .pre .1 .1 .inside) (c .before .before .before .before .before .pre .1 .1 .space))
 
-  enum-known-read : lts.Need-enum-known-read (R t) (given t) it.Post
-  enum-known-read c = search needs
-
-  same-length : lts.Need-same-length (R t) (given t) it.Post
-  same-length c = search needs
-
   returns-2 : lts.Need-returns-2 (R t) (given t) it.Post
   returns-2 c = assume-unread (c .before .before .before .before .before .before .before .before .before .pre .1 .1) (c .before .before .before .before .before .before .if1 .left) (c .before .before .before .atom .kept .1 .0) (c .before .before .before .atom .result) (c .before .before .before .atom .ensures) (c .match .keys2)
-
-  raised-requires : lts.Need-raised-requires (R t) (given t) it.Post
-  raised-requires c κs = search needs
 
   assuming-requires : lts.Need-assuming-requires (R t) (given t) it.Post
   assuming-requires c κs = assuming-asks (c .before .before .before .before .before .before .before .before .before .before .before .before .before .pre .1 .1) (c .before .before .before .before .before .before .before .before .before .before .if1 .left) (c .before .before .before .before .before .before .before .atom .kept .1 .0) (c .before .before .before .before .before .before .before .atom .ensures) (c .before .before .before .read .given .1) (c .raised .ensures)
 
-  sub-assume : lts.Need-sub-assume (R t) (given t) it.Post
-  sub-assume c = search needs
-
   assume-requires : lts.Need-assume-requires (R t) (given t) it.Post
   assume-requires c κs = assume-asks (c .before .before .before .before .before .before .before .before .before .before .before .before .before .before .before .before .before .pre .1 .1) (c .before .before .before .before .before .before .before .before .before .before .before .before .before .before .if1 .left) (c .before .before .before .before .before .before .before .before .before .before .before .atom .kept .1 .0) (c .before .before .before .before .before .before .before .before .before .before .before .atom .ensures) (c .before .before .before .before .before .before .before .read .given .1) (c .before .before .before .before .raised .ensures) (c .before .before .before .assuming .ensures) (c .before .before .before .before .before .before .before .before .before .before .before .before .before .before .before .before .before .pre .0) (c .before .before .before .before .before .before .before .before .before .before .before .before .before .before .before .before .before .pre .1 .0) (c .before .before .before .assuming .kept .0)
-
-  same-length-2 : lts.Need-same-length-2 (R t) (given t) it.Post
-  same-length-2 c = search needs
 
   returns-3 : lts.Need-returns-3 (R t) (given t) it.Post
   returns-3 c = assume-more (c .before .before .before .before .before .before .before .before .before .before .before .before .before .before .before .before .before .before .before .before .pre .1 .1) (c .before .before .before .before .before .before .before .before .before .before .before .before .before .before .before .before .before .if1 .left) (c .before .before .before .before .before .before .before .before .before .before .before .before .before .before .atom .kept .1 .0) (c .before .before .before .before .before .before .before .before .before .before .before .before .before .before .atom .ensures) (c .before .before .before .before .before .before .before .before .before .before .read .given .1) (c .before .before .before .before .before .before .before .raised .ensures) (c .before .before .before .before .before .before .assuming .ensures) (c .before .before .assume .ensures)
 
 pub +assume-spec : {M : Type 1} → statement M
-+assume-spec = close μ (λ t. lts.spec (R t) (given t) it.Post (returns t) (atom-requires t) (enum-known-read t) (same-length t) (returns-2 t) (raised-requires t) (assuming-requires t) (sub-assume t) (assume-requires t) (same-length-2 t) (returns-3 t))
++assume-spec = close μ (λ t. lts.spec (R t) (given t) it.Post (returns t) (atom-requires t) (λ c. search needs) (λ c. search needs) (returns-2 t) (λ c κs. search needs) (assuming-requires t) (λ c. search needs) (assume-requires t) (λ c. search needs) (returns-3 t))

@@ -5,41 +5,14 @@ use borrow.Author.Needs.{needs}
 use Rattle.blocks.proofs.annotation_block.Statement.{statement}
 use Rattle.blocks.proofs.annotation_block.Tie as tie
 
-start-requires : tie.Need-start-requires
-start-requires c κs = search needs
-
-add-expression : tie.Need-add-expression
-add-expression c = search needs
-
 expression-requires : tie.Need-expression-requires
 expression-requires c κs = ((c .before .before .before .before .before .before .before .before .pre .1 .0, omega arith), start-ready (c .before .before .before .before .start .ensures) (omega (arith, c .before .before .before .before .before .before .before .before .pre .0 .words, c .before .before .before .before .start .kept .0)))
-
-enum-known-read : tie.Need-enum-known-read
-enum-known-read c = search needs
-
-same-length : tie.Need-same-length
-same-length c = search needs
 
 returns : tie.Need-returns
 returns c = annotation-unread (c .before .before .before .before .before .before .before .before .start .ensures) (c .before .before .before .before .before .before .before .before .before .before .before .before .args .at) (c .before .before .before .expression .result) (c .before .before .before .expression .kept .1 .0) (c .before .before .before .expression .ensures) (c .match .keys2)
 
-add-wide-byte : tie.Need-add-wide-byte
-add-wide-byte c = search needs
-
-shared-slice-read-wide-byte : tie.Need-shared-slice-read-wide-byte
-shared-slice-read-wide-byte c = search needs
-
-wide-byte-requires : tie.Need-wide-byte-requires
-wide-byte-requires c κs = search needs
-
-raised-requires : tie.Need-raised-requires
-raised-requires c κs = search needs
-
 assume-requires : tie.Need-assume-requires
 assume-requires c κs = (c .before .before .before .before .before .before .before .before .before .before .before .before .before .before .before .before .before .before .pre .1 .0, block-asks (c .before .before .before .before .before .before .before .before .before .before .before .before .before .before .start .ensures) (annotation-found (c .before .before .before .before .before .before .before .before .before .before .before .before .before .before .start .ensures) (c .before .before .before .before .before .before .before .before .before .before .before .before .before .before .before .before .before .before .args .at) (c .before .before .before .before .before .before .before .before .before .expression .result) (c .before .before .before .before .before .before .before .before .before .expression .kept .1 .0) (c .before .before .before .before .before .before .before .before .before .expression .ensures) (c .before .before .before .before .before .read .given .1) .above) (c .raised .ensures) (omega (arith, c .before .before .wide-byte .ensures, c .before .before .before .before .before .before .before .before .before .before .before .before .before .before .before .before .before .before .pre .1 .2)) (omega arith) (omega (arith, c .before .before .before .before .before .before .before .before .before .before .before .before .before .before .before .before .before .before .pre .0 .words, c .before .before .before .before .before .before .before .before .before .before .before .before .before .before .start .kept .0, c .before .before .before .before .before .before .before .before .before .expression .kept .1 .0)))
-
-wide-requires : tie.Need-wide-requires
-wide-requires c κs = search needs
 
 same-length-2 : tie.Need-same-length-2
 same-length-2 c = c .before .before .before .assume .kept .1 .1 .1 .1 .0 ∙ c .before .before .before .before .before .before .before .before .before .before .before .before .before .expression .kept .1 .0 ∙ c .before .before .before .before .before .before .before .before .before .before .before .before .before .before .before .before .before .before .start .kept .0
@@ -51,17 +24,17 @@ pub annotation-block-spec : {M : Type 1} → statement M
 annotation-block-spec =
     tie.close
     (tie.spec
-    start-requires
-    add-expression
+    (λ c κs. search needs)
+    (λ c. search needs)
     expression-requires
-    enum-known-read
-    same-length
+    (λ c. search needs)
+    (λ c. search needs)
     returns
-    add-wide-byte
-    shared-slice-read-wide-byte
-    wide-byte-requires
-    raised-requires
+    (λ c. search needs)
+    (λ c. search needs)
+    (λ c κs. search needs)
+    (λ c κs. search needs)
     assume-requires
-    wide-requires
+    (λ c κs. search needs)
     same-length-2
     returns-2)

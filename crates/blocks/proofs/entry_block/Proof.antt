@@ -5,17 +5,8 @@ use Rattle.blocks.proofs.entry_block.Tie as tie
 use mathlib.Core.Path.{refl, _∙_}
 use Rattle.blocks.proofs.Starting.{start-asks, block-asks, entry-above, entry-block}
 
-start-requires : tie.Need-start-requires
-start-requires c κs = search needs
-
 put-constant-requires : tie.Need-put-constant-requires
 put-constant-requires c κs = start-asks (c .before .before .before .start .ensures) (omega (arith, c .before .before .before .before .before .before .before .pre .0 .words, c .before .before .before .start .kept .0))
-
-add-raised : tie.Need-add-raised
-add-raised c = search needs
-
-raised-requires : tie.Need-raised-requires
-raised-requires c κs = search needs
 
 assume-requires : tie.Need-assume-requires
 assume-requires c κs = (omega arith, block-asks (c .before .before .before .before .before .before .before .before .start .ensures) (entry-above (c .before .before .before .before .before .before .before .before .start .ensures) (c .before .before .before .before .put-constant .ensures) (c .before .before .before .before .put-constant .kept .0)) (c .raised .ensures) (c .before .before .before .before .before .before .before .before .before .before .before .before .pre .1) (omega arith) (omega (arith, c .before .before .before .before .before .before .before .before .before .before .before .before .pre .0 .words, c .before .before .before .before .before .before .before .before .start .kept .0, c .before .before .before .before .put-constant .kept .0)))
@@ -30,9 +21,9 @@ pub entry-block-spec : {M : Type 1} → statement M
 entry-block-spec =
     tie.close
     (tie.spec
-    start-requires
+    (λ c κs. search needs)
     put-constant-requires
-    add-raised raised-requires
+    (λ c. search needs) (λ c κs. search needs)
     assume-requires
     same-length
     returns)

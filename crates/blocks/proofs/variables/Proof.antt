@@ -14,17 +14,8 @@ abbrev μ-loop : tie.MeasureT-loop
 loop-holds : tie.Need-loop-holds Inv-loop μ-loop
 loop-holds c = filling-none (c .before .pre)
 
-cast-put-variable : tie.Need-cast-put-variable Inv-loop μ-loop
-cast-put-variable c = search needs
-
 put-variable-requires : tie.Need-put-variable-requires Inv-loop μ-loop
 put-variable-requires c κs = filling-asks (c .before .before .before .before .pre) (c .before .before .loop .inv) (c .before .loop-test .taken)
-
-add-v : tie.Need-add-v Inv-loop μ-loop
-add-v c = search needs
-
-loop-less : tie.Need-loop-less Inv-loop μ-loop
-loop-less c = search needs
 
 loop-again : tie.Need-loop-again Inv-loop μ-loop
 loop-again c = filling-more (c .before .before .before .before .before .before .before .pre) (c .before .before .before .before .before .loop .inv) (c .before .before .before .before .loop-test .taken) (c .before .before .put-variable .ensures) (c .before .before .put-variable .kept .0)
@@ -42,10 +33,10 @@ variables-spec =
     Inv-loop
     μ-loop
     loop-holds
-    cast-put-variable
+    (λ c. search needs)
     put-variable-requires
-    add-v
-    loop-less
+    (λ c. search needs)
+    (λ c. search needs)
     loop-again
     same-length
     returns)

@@ -4,41 +4,17 @@ use Rattle.header.proofs.Headers.{passed}
 use Rattle.checker.proofs.check_package.Statement.{statement}
 use Rattle.checker.proofs.check_package.Tie as tie
 
-read-header-requires : tie.Need-read-header-requires
-read-header-requires c κs = search needs
-
-enum-known-header : tie.Need-enum-known-header
-enum-known-header c = search needs
-
-enum-known-refusal : tie.Need-enum-known-refusal
-enum-known-refusal c = search needs
-
-refused-requires : tie.Need-refused-requires
-refused-requires c κs = search needs
-
 returns : tie.Need-returns
 returns c = laws.header-stop _ _ _ (c .before .before .before .before .read-header .ensures) _ (c .before .before .refusal .given .1) _ (c .refused .ensures)
 
 check-code-requires : tie.Need-check-code-requires
 check-code-requires c κs = passed (c .before .before .before .read-header .ensures) (c .before .header .given .1) .1
 
-enum-known-code : tie.Need-enum-known-code
-enum-known-code c = search needs
-
-refused-requires-2 : tie.Need-refused-requires-2
-refused-requires-2 c κs = search needs
-
 returns-2 : tie.Need-returns-2
 returns-2 c = laws.code-stop _ _ _ (c .before .before .before .before .before .before .before .before .read-header .ensures) _ (c .before .before .before .before .before .before .header .given .1) _ (c .before .before .before .before .check-code .ensures) _ (c .before .before .code .given .1) _ (c .refused2 .ensures)
 
-enum-told : tie.Need-enum-told
-enum-told c = search needs
-
 check-annotations-requires : tie.Need-check-annotations-requires
 check-annotations-requires c κs = (c .before .before .before .before .before .before .before .before .before .before .before .pre .0, (c .before .before .before .before .before .before .before .before .before .before .before .pre .1, passed (c .before .before .before .before .before .before .before .read-header .ensures) (c .before .before .before .before .before .header .given .1) .1))
-
-same-length : tie.Need-same-length
-same-length c = search needs
 
 returns-3 : tie.Need-returns-3
 returns-3 c = laws.annotations-checked _ _ _ (c .before .before .before .before .before .before .before .before .before .before .read-header .ensures) _ (c .before .before .before .before .before .before .before .before .header .given .1) _ (c .before .before .before .before .before .before .check-code .ensures) (c .before .before .before .before .enum-told .given .1) _ (c .before .before .check-annotations .ensures)
@@ -47,16 +23,16 @@ pub check-package-spec : {M : Type 1} → statement M
 check-package-spec =
     tie.close
     (tie.spec
-    read-header-requires
-    enum-known-header
-    enum-known-refusal
-    refused-requires
+    (λ c κs. search needs)
+    (λ c. search needs)
+    (λ c. search needs)
+    (λ c κs. search needs)
     returns
     check-code-requires
-    enum-known-code
-    refused-requires-2
+    (λ c. search needs)
+    (λ c κs. search needs)
     returns-2
-    enum-told
+    (λ c. search needs)
     check-annotations-requires
-    same-length
+    (λ c. search needs)
     returns-3)

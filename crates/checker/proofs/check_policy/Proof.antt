@@ -3,26 +3,11 @@ use Rattle.checker.proofs.Laws as laws
 use Rattle.checker.proofs.check_policy.Statement.{statement}
 use Rattle.checker.proofs.check_policy.Tie as tie
 
-read-policy-requires : tie.Need-read-policy-requires
-read-policy-requires c κs = search needs
-
-enum-known-answer : tie.Need-enum-known-answer
-enum-known-answer c = search needs
-
-refused-requires : tie.Need-refused-requires
-refused-requires c κs = search needs
-
 returns : tie.Need-returns
 returns c = laws.policy-stop _ (c .before .before .before .before .before .before .before .before .pre) _ _ _ (c .before .before .before .before .read-policy .ensures) _ (c .before .before .answer .given .1) _ (c .refused .ensures)
 
-enum-told : tie.Need-enum-told
-enum-told c = search needs
-
 check-package-requires : tie.Need-check-package-requires
 check-package-requires c κs = (c .before .before .before .before .before .before .before .before .pre, c .before .before .before .before .read-policy .ensures .passed (c .before .before .enum-told .given .1))
-
-same-length : tie.Need-same-length
-same-length c = search needs
 
 returns-2 : tie.Need-returns-2
 returns-2 c = laws.package-checked _ (c .before .before .before .before .before .before .before .before .before .before .before .pre) _ _ _ (c .before .before .before .before .before .before .before .read-policy .ensures) (c .before .before .before .before .before .enum-told .given .1) _ (c .before .before .check-package .ensures)
@@ -31,11 +16,11 @@ pub check-policy-spec : {M : Type 1} → statement M
 check-policy-spec =
     tie.close
     (tie.spec
-    read-policy-requires
-    enum-known-answer
-    refused-requires
+    (λ c κs. search needs)
+    (λ c. search needs)
+    (λ c κs. search needs)
     returns
-    enum-told
+    (λ c. search needs)
     check-package-requires
-    same-length
+    (λ c. search needs)
     returns-2)

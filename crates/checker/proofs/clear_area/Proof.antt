@@ -7,14 +7,8 @@ use Rattle.workspace.specs.Layout.{areaWords}
 use Rattle.checker.proofs.clear_area.Statement.{statement}
 use Rattle.checker.proofs.clear_area.Tie as tie
 
-slice-relend-prefix-clear : tie.Need-slice-relend-prefix-clear
-slice-relend-prefix-clear c = search needs
-
 slice-aggregate-clear : tie.Need-slice-aggregate-clear
 slice-aggregate-clear c = sym (length-take-le areaWords (now (c .before .before .args .workspace)) (c .before .before .pre))
-
-clear-requires : tie.Need-clear-requires
-clear-requires c κs = search needs
 
 same-length : tie.Need-same-length
 same-length c = length-front (now (c .before .before .before .before .before .args .workspace)) (c .before .before .clear .last .0) areaWords (c .before .before .clear .kept .0)
@@ -25,4 +19,4 @@ returns c = fills.front-cleared (now (c .before .before .before .before .before 
 pub clear-area-spec : {M : Type 1} → statement M
 clear-area-spec =
     tie.close
-    (tie.spec slice-relend-prefix-clear slice-aggregate-clear clear-requires same-length returns)
+    (tie.spec (λ c. search needs) slice-aggregate-clear (λ c κs. search needs) same-length returns)

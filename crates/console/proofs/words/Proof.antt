@@ -25,23 +25,8 @@ mul-word c = omega (arith, c .before .before .before .before .pre (c .before .lo
 word-requires : tie.Need-word-requires Inv-loop μ-loop
 word-requires c κs = omega (arith, c .before .before .before .before .pre (c .before .loop .i) (omega (arith, c .loop-test .taken, c .before .loop .inv .long)))
 
-mul-out : tie.Need-mul-out Inv-loop μ-loop
-mul-out c = search needs
-
-slice-write-out : tie.Need-slice-write-out Inv-loop μ-loop
-slice-write-out c = search needs
-
-add-i : tie.Need-add-i Inv-loop μ-loop
-add-i c = search needs
-
-loop-less : tie.Need-loop-less Inv-loop μ-loop
-loop-less c = search needs
-
 loop-again : tie.Need-loop-again Inv-loop μ-loop
 loop-again c = filling.more _ _ _ _ _ _ (c .before .before .loop .inv) (c .before .loop-test .taken) (c .word .ensures)
-
-same-length : tie.Need-same-length Inv-loop μ-loop
-same-length c = search needs
 
 returns : tie.Need-returns Inv-loop μ-loop
 returns c = filling.done _ _ _ _ _ (c .before .loop .inv) (c .loop-test .left)
@@ -56,10 +41,10 @@ words-spec =
     add-word
     mul-word
     word-requires
-    mul-out
-    slice-write-out
-    add-i
-    loop-less
+    (λ c. search needs)
+    (λ c. search needs)
+    (λ c. search needs)
+    (λ c. search needs)
     loop-again
-    same-length
+    (λ c. search needs)
     returns)

@@ -8,21 +8,6 @@ use borrow.Author.Needs.{needs}
 use Rattle.derivation.proofs.planned.Statement.{statement}
 use Rattle.derivation.proofs.planned.Tie as tie
 
-assumed-requires : tie.Need-assumed-requires
-assumed-requires c κs = search needs
-
-reflexive-requires : tie.Need-reflexive-requires
-reflexive-requires c κs = search needs
-
-reflexive-requires-2 : tie.Need-reflexive-requires-2
-reflexive-requires-2 c κs = search needs
-
-evaluated-requires : tie.Need-evaluated-requires
-evaluated-requires c κs = search needs
-
-from-sides-requires : tie.Need-from-sides-requires
-from-sides-requires c κs = search needs
-
 from-sides-requires-2 : tie.Need-from-sides-requires-2
 from-sides-requires-2 c κs = (c .before .before .before .pre .below, argument-below (c .before .before .before .pre) 5 (c .match .keys6) refl)
 
@@ -35,77 +20,23 @@ from-sides-requires-4 c κs = (c .before .before .before .pre .below, argument-b
 from-sides-requires-5 : tie.Need-from-sides-requires-5
 from-sides-requires-5 c κs = (c .before .before .before .pre .below, argument-below (c .before .before .before .pre) 8 (c .match .keys9) refl)
 
-from-sides-requires-6 : tie.Need-from-sides-requires-6
-from-sides-requires-6 c κs = search needs
-
-from-sides-requires-7 : tie.Need-from-sides-requires-7
-from-sides-requires-7 c κs = search needs
-
-congruent-requires : tie.Need-congruent-requires
-congruent-requires c κs = search needs
-
-same-form-requires : tie.Need-same-form-requires
-same-form-requires c κs = search needs
-
-from-zero-requires : tie.Need-from-zero-requires
-from-zero-requires c κs = search needs
-
-monotone-requires : tie.Need-monotone-requires
-monotone-requires c κs = search needs
-
-monotone-requires-2 : tie.Need-monotone-requires-2
-monotone-requires-2 c κs = search needs
-
-successor-requires : tie.Need-successor-requires
-successor-requires c κs = search needs
-
-within-successor-requires : tie.Need-within-successor-requires
-within-successor-requires c κs = search needs
-
-no-overflow-requires : tie.Need-no-overflow-requires
-no-overflow-requires c κs = search needs
-
-from-sides-requires-8 : tie.Need-from-sides-requires-8
-from-sides-requires-8 c κs = search needs
-
-from-sides-requires-9 : tie.Need-from-sides-requires-9
-from-sides-requires-9 c κs = search needs
-
-from-sides-requires-10 : tie.Need-from-sides-requires-10
-from-sides-requires-10 c κs = search needs
-
 right-of-requires : tie.Need-right-of-requires
 right-of-requires c κs = (none-below 22 _ (c .before .match .rest), c .if1 .taken)
 
-in-region-requires : tie.Need-in-region-requires
-in-region-requires c κs = search needs
-
 contradicted-requires : tie.Need-contradicted-requires
 contradicted-requires c κs = argument-below (c .before .before .before .before .pre) 24 (last-rule (c .before .before .before .before .pre) (c .if1 .left)) refl
-
-same-length : tie.Need-same-length
-same-length c = search needs
 
 returns : tie.Need-returns
 unfolding ruleOf
 returns c = chosen (c .before .before .before .before .before .pre) 0 (c .before .before .match .keys1) (c .assumed .ensures) (λ policy g j. (j .assumptions, refl))
 
-same-length-2 : tie.Need-same-length-2
-same-length-2 c = search needs
-
 returns-2 : tie.Need-returns-2
 unfolding premises reflexivePremises ruleOf
 returns-2 c = chosen (c .before .before .before .before .before .pre) 1 (c .before .before .match .keys2) (c .reflexive .ensures) (λ policy g j. (tt, refl))
 
-same-length-3 : tie.Need-same-length-3
-same-length-3 c = search needs
-
 returns-3 : tie.Need-returns-3
 unfolding premises reflexivePremises ruleOf
 returns-3 c = chosen (c .before .before .before .before .before .pre) 2 (c .before .before .match .keys3) (c .reflexive2 .ensures) (λ policy g j. (tt, refl))
-
-same-length-4 : tie.Need-same-length-4
-same-length-4 c = search needs
 
 returns-4 : tie.Need-returns-4
 unfolding ruleOf
@@ -139,57 +70,33 @@ returns-11 : tie.Need-returns-11
 unfolding premises sidePremises ruleOf
 returns-11 c = chosen (c .before .before .before .before .pre) 10 (c .before .match .keys11) (c .from-sides7 .ensures _ (c .before .before .before .before .pre .prepared .formed)) (λ policy g j. (tt, refl))
 
-same-length-5 : tie.Need-same-length-5
-same-length-5 c = search needs
-
 returns-12 : tie.Need-returns-12
 unfolding ruleOf
 returns-12 c = chosen (c .before .before .before .before .before .pre) 11 (c .before .before .match .keys12) (c .congruent .ensures) (λ policy g j. (tt, refl))
-
-same-length-6 : tie.Need-same-length-6
-same-length-6 c = search needs
 
 returns-13 : tie.Need-returns-13
 unfolding ruleOf
 returns-13 c = chosen (c .before .before .before .before .before .before .before .pre) 12 (c .before .before .before .before .match .keys13) (c .before .before .same-form .ensures) (λ policy g j. (tt, refl))
 
-same-length-7 : tie.Need-same-length-7
-same-length-7 c = search needs
-
 returns-14 : tie.Need-returns-14
 unfolding ruleOf
 returns-14 c = chosen (c .before .before .before .before .before .pre) 13 (c .before .before .match .keys14) (c .from-zero .ensures) (λ policy g j. (tt, refl))
-
-same-length-8 : tie.Need-same-length-8
-same-length-8 c = search needs
 
 returns-15 : tie.Need-returns-15
 unfolding premises monotonePremises ruleOf
 returns-15 c = chosen (c .before .before .before .before .before .pre) 14 (c .before .before .match .keys15) (c .monotone .ensures) (λ policy g j. (tt, refl))
 
-same-length-9 : tie.Need-same-length-9
-same-length-9 c = search needs
-
 returns-16 : tie.Need-returns-16
 unfolding premises monotonePremises ruleOf
 returns-16 c = chosen (c .before .before .before .before .before .pre) 15 (c .before .before .match .keys16) (c .monotone2 .ensures) (λ policy g j. (tt, refl))
-
-same-length-10 : tie.Need-same-length-10
-same-length-10 c = search needs
 
 returns-17 : tie.Need-returns-17
 unfolding ruleOf
 returns-17 c = chosen (c .before .before .before .before .before .pre) 16 (c .before .before .match .keys17) (c .successor .ensures) (λ policy g j. (tt, refl))
 
-same-length-11 : tie.Need-same-length-11
-same-length-11 c = search needs
-
 returns-18 : tie.Need-returns-18
 unfolding ruleOf
 returns-18 c = chosen (c .before .before .before .before .before .before .before .pre) 17 (c .before .before .before .before .match .keys18) (c .before .before .within-successor .ensures) (λ policy g j. (tt, refl))
-
-same-length-12 : tie.Need-same-length-12
-same-length-12 c = search needs
 
 returns-19 : tie.Need-returns-19
 unfolding ruleOf
@@ -207,9 +114,6 @@ returns-22 : tie.Need-returns-22
 unfolding premises sidePremises ruleOf
 returns-22 c = chosen (c .before .before .before .before .pre) 21 (c .before .match .keys22) (c .from-sides10 .ensures _ (c .before .before .before .before .pre .prepared .formed)) (λ policy g j. (tt, refl))
 
-same-length-13 : tie.Need-same-length-13
-same-length-13 c = search needs
-
 returns-23 : tie.Need-returns-23
 returns-23 c = chosen (c .before .before .before .before .before .before .before .before .before .pre) _ refl (c .before .before .in-region .ensures) (λ policy g j. (j .regions, asks-region policy g _ _ _ (none-below 22 _ (c .before .before .before .before .before .before .match .rest), c .before .before .before .before .before .if1 .taken) (c .before .before .before .before .right-of .ensures)))
 
@@ -221,38 +125,38 @@ pub planned-spec : {M : Type 1} → statement M
 planned-spec =
     tie.close
     (tie.spec
-    assumed-requires
-    reflexive-requires
-    reflexive-requires-2
-    evaluated-requires
-    from-sides-requires
+    (λ c κs. search needs)
+    (λ c κs. search needs)
+    (λ c κs. search needs)
+    (λ c κs. search needs)
+    (λ c κs. search needs)
     from-sides-requires-2
     from-sides-requires-3
     from-sides-requires-4
     from-sides-requires-5
-    from-sides-requires-6
-    from-sides-requires-7
-    congruent-requires
-    same-form-requires
-    from-zero-requires
-    monotone-requires
-    monotone-requires-2
-    successor-requires
-    within-successor-requires
-    no-overflow-requires
-    from-sides-requires-8
-    from-sides-requires-9
-    from-sides-requires-10
+    (λ c κs. search needs)
+    (λ c κs. search needs)
+    (λ c κs. search needs)
+    (λ c κs. search needs)
+    (λ c κs. search needs)
+    (λ c κs. search needs)
+    (λ c κs. search needs)
+    (λ c κs. search needs)
+    (λ c κs. search needs)
+    (λ c κs. search needs)
+    (λ c κs. search needs)
+    (λ c κs. search needs)
+    (λ c κs. search needs)
     right-of-requires
-    in-region-requires
+    (λ c κs. search needs)
     contradicted-requires
-    same-length
+    (λ c. search needs)
     returns
-    same-length-2
+    (λ c. search needs)
     returns-2
-    same-length-3
+    (λ c. search needs)
     returns-3
-    same-length-4
+    (λ c. search needs)
     returns-4
     returns-5
     returns-6
@@ -261,25 +165,25 @@ planned-spec =
     returns-9
     returns-10
     returns-11
-    same-length-5
+    (λ c. search needs)
     returns-12
-    same-length-6
+    (λ c. search needs)
     returns-13
-    same-length-7
+    (λ c. search needs)
     returns-14
-    same-length-8
+    (λ c. search needs)
     returns-15
-    same-length-9
+    (λ c. search needs)
     returns-16
-    same-length-10
+    (λ c. search needs)
     returns-17
-    same-length-11
+    (λ c. search needs)
     returns-18
-    same-length-12
+    (λ c. search needs)
     returns-19
     returns-20
     returns-21
     returns-22
-    same-length-13
+    (λ c. search needs)
     returns-23
     returns-24)

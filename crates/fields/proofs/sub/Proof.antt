@@ -5,12 +5,9 @@ use Rattle.fields.proofs.Laws as laws
 use Rattle.fields.proofs.sub.Statement.{statement}
 use Rattle.fields.proofs.sub.Tie as tie
 
-wrapping-sub-u32-requires : tie.Need-wrapping-sub-u32-requires
-wrapping-sub-u32-requires c κs = search needs
-
 returns : tie.Need-returns
 unfolding addW
 returns c = laws.sub-only _ _ _ (omega arith) (omega arith) (omega arith) (c .wrapping-sub-u32 .ensures)
 
 pub sub-spec : {M : Type 1} → statement M
-sub-spec = tie.close (tie.spec wrapping-sub-u32-requires returns)
+sub-spec = tie.close (tie.spec (λ c κs. search needs) returns)

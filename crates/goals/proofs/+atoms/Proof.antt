@@ -34,44 +34,20 @@ module _ (t : ℕ) where
   atom-requires : lts.Need-atom-requires (R t) (given t) it.Post
   atom-requires c κs = ((c .before .before .before .before .before .before .before .pre .1 .0, omega arith), path-ready atomNodes (omega arith) (c .before .before .before .before .before .before .before .pre .1 .1 .inside) (c .before .before .before .before .before .before .before .pre .1 .1 .space))
 
-  enum-known-read : lts.Need-enum-known-read (R t) (given t) it.Post
-  enum-known-read c = search needs
-
-  same-length : lts.Need-same-length (R t) (given t) it.Post
-  same-length c = search needs
-
   returns-2 : lts.Need-returns-2 (R t) (given t) it.Post
   returns-2 c = atoms-unread (c .before .before .before .before .before .before .before .before .before .before .before .pre .1 .1) (c .before .before .before .before .before .before .if1 .left) (c .before .before .before .atom .result) (c .before .before .before .atom .ensures) (c .match .keys2)
-
-  raised-requires : lts.Need-raised-requires (R t) (given t) it.Post
-  raised-requires c κs = search needs
 
   goal-requires : lts.Need-goal-requires (R t) (given t) it.Post
   goal-requires c κs = atom-asks (c .before .before .before .before .before .before .before .before .before .before .before .before .before .before .before .pre .1 .1) (c .before .before .before .before .before .before .before .before .before .before .if1 .left) (c .before .before .before .before .before .before .before .atom .kept .1 .0) (c .before .before .before .before .before .before .before .atom .ensures) (c .before .before .before .read .given .1) (c .raised .ensures)
 
-  enum-known-first : lts.Need-enum-known-first (R t) (given t) it.Post
-  enum-known-first c = search needs
-
-  enum-told : lts.Need-enum-told (R t) (given t) it.Post
-  enum-told c = search needs
-
-  same-length-2 : lts.Need-same-length-2 (R t) (given t) it.Post
-  same-length-2 c = search needs
-
   returns-3 : lts.Need-returns-3 (R t) (given t) it.Post
   returns-3 c = atoms-stopped (c .before .before .before .before .before .before .before .before .before .before .before .before .before .before .before .before .before .before .before .before .pre .1 .1) (c .before .before .before .before .before .before .before .before .before .before .before .before .before .before .before .if1 .left) (c .before .before .before .before .before .before .before .before .before .before .before .before .atom .kept .1 .0) (c .before .before .before .before .before .before .before .before .before .before .before .before .atom .ensures) (c .before .before .before .before .before .before .before .before .read .given .1) (c .before .before .before .before .before .raised .ensures) (c .before .before .before .before .goal .ensures) (c .enum-told .given .1)
 
-  sub-atoms : lts.Need-sub-atoms (R t) (given t) it.Post
-  sub-atoms c = search needs
-
   atoms-requires : lts.Need-atoms-requires (R t) (given t) it.Post
   atoms-requires c κs = others-ask (c .before .before .before .before .before .before .before .before .before .before .before .before .before .before .before .before .before .before .before .before .before .before .pre .1 .1) (c .before .before .before .before .before .before .before .before .before .before .before .before .before .before .before .before .before .if1 .left) (c .before .before .before .before .before .before .before .before .before .before .before .before .before .before .atom .kept .1 .0) (c .before .before .before .before .before .before .before .before .before .before .before .before .before .before .atom .ensures) (c .before .before .before .before .before .before .before .before .before .before .read .given .1) (c .before .before .before .before .before .before .before .raised .ensures) (c .before .before .before .before .before .before .goal .ensures) (c .before .before .first .given .1) (c .before .before .before .before .before .before .before .before .before .before .before .before .before .before .before .before .before .before .before .before .before .before .pre .0) (c .before .before .before .before .before .before .before .before .before .before .before .before .before .before .before .before .before .before .before .before .before .before .pre .1 .0) (c .before .before .before .before .before .before .goal .kept .1 .1 .1 .0)
-
-  same-length-3 : lts.Need-same-length-3 (R t) (given t) it.Post
-  same-length-3 c = search needs
 
   returns-4 : lts.Need-returns-4 (R t) (given t) it.Post
   returns-4 c = atoms-more (c .before .before .before .before .before .before .before .before .before .before .before .before .before .before .before .before .before .before .before .before .before .before .before .before .before .pre .1 .1) (c .before .before .before .before .before .before .before .before .before .before .before .before .before .before .before .before .before .before .before .before .if1 .left) (c .before .before .before .before .before .before .before .before .before .before .before .before .before .before .before .before .before .atom .kept .1 .0) (c .before .before .before .before .before .before .before .before .before .before .before .before .before .before .before .before .before .atom .ensures) (c .before .before .before .before .before .before .before .before .before .before .before .before .before .read .given .1) (c .before .before .before .before .before .before .before .before .before .before .raised .ensures) (c .before .before .before .before .before .before .before .before .before .goal .ensures) (c .before .before .before .before .before .first .given .1) (c .before .before .atoms .ensures)
 
 pub +atoms-spec : {M : Type 1} → statement M
-+atoms-spec = close μ (λ t. lts.spec (R t) (given t) it.Post (returns t) (atom-requires t) (enum-known-read t) (same-length t) (returns-2 t) (raised-requires t) (goal-requires t) (enum-known-first t) (enum-told t) (same-length-2 t) (returns-3 t) (sub-atoms t) (atoms-requires t) (same-length-3 t) (returns-4 t))
++atoms-spec = close μ (λ t. lts.spec (R t) (given t) it.Post (returns t) (atom-requires t) (λ c. search needs) (λ c. search needs) (returns-2 t) (λ c κs. search needs) (goal-requires t) (λ c. search needs) (λ c. search needs) (λ c. search needs) (returns-3 t) (λ c. search needs) (atoms-requires t) (λ c. search needs) (returns-4 t))

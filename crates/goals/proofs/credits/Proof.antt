@@ -3,44 +3,20 @@ use Rattle.goals.proofs.credits.Statement.{statement}
 use Rattle.goals.proofs.credits.Tie as tie
 use Rattle.goals.proofs.Arriving.{put-asks, difference-asks, first-asks, credits-stopped, second-asks, credits-judged}
 
-add-rest : tie.Need-add-rest
-add-rest c = search needs
-
-cast-put-constant : tie.Need-cast-put-constant
-cast-put-constant c = search needs
-
 put-constant-requires : tie.Need-put-constant-requires
 put-constant-requires c κs = put-asks (c .before .before .before .before .before .pre .0) (c .before .before .before .before .before .pre .1 .0)
 
 put-difference-requires : tie.Need-put-difference-requires
 put-difference-requires c κs = difference-asks (c .before .before .before .before .before .before .before .before .before .pre .0) (c .before .before .before .before .before .before .before .before .before .pre .1 .0) (c .before .before .before .before .before .before .before .before .before .pre .1 .1) (c .before .before .before .put-constant .ensures) (c .before .before .before .put-constant .kept .0)
 
-add-raised : tie.Need-add-raised
-add-raised c = search needs
-
-raised-requires : tie.Need-raised-requires
-raised-requires c κs = search needs
-
 goal-requires : tie.Need-goal-requires
 goal-requires c κs = first-asks (c .before .before .before .before .before .before .before .before .before .before .before .before .before .before .pre .0) (c .before .before .before .before .before .before .before .before .before .before .before .before .before .before .pre .1 .0) (c .before .before .before .before .before .before .before .before .before .before .before .before .before .before .pre .1 .1) (c .before .before .before .before .before .before .before .before .put-constant .ensures) (c .before .before .before .before .before .before .before .before .put-constant .kept .0) (c .before .before .before .before .put-difference .ensures) (c .before .before .before .before .put-difference .kept .0) (c .before .raised .ensures)
-
-enum-known-first : tie.Need-enum-known-first
-enum-known-first c = search needs
-
-enum-told : tie.Need-enum-told
-enum-told c = search needs
-
-same-length : tie.Need-same-length
-same-length c = search needs
 
 returns : tie.Need-returns
 returns c = credits-stopped (c .before .before .before .before .before .before .before .before .before .before .before .before .before .before .before .before .before .before .before .pre .0) (c .before .before .before .before .before .before .before .before .before .before .before .before .before .before .before .before .before .before .before .pre .1 .0) (c .before .before .before .before .before .before .before .before .before .before .before .before .before .before .before .before .before .before .before .pre .1 .1) (c .before .before .before .before .before .before .before .before .before .before .before .before .before .put-constant .ensures) (c .before .before .before .before .before .before .before .before .before .before .before .before .before .put-constant .kept .0) (c .before .before .before .before .before .before .before .before .before .put-difference .ensures) (c .before .before .before .before .before .before .before .before .before .put-difference .kept .0) (c .before .before .before .before .before .before .raised .ensures) (c .before .before .before .before .goal .ensures) (c .enum-told .given .1)
 
 goal-requires-2 : tie.Need-goal-requires-2
 goal-requires-2 c κs = second-asks (c .before .before .before .before .before .before .before .before .before .before .before .before .before .before .before .before .before .before .before .before .before .pre .0) (c .before .before .before .before .before .before .before .before .before .before .before .before .before .before .before .before .before .before .before .before .before .pre .1 .0) (c .before .before .before .before .before .before .before .before .before .before .before .before .before .before .before .before .before .before .before .before .before .pre .1 .1) (c .before .before .before .before .before .before .before .before .before .before .before .before .before .before .before .put-constant .ensures) (c .before .before .before .before .before .before .before .before .before .before .before .before .before .before .before .put-constant .kept .0) (c .before .before .before .before .before .before .before .before .before .before .before .put-difference .ensures) (c .before .before .before .before .before .before .before .before .before .before .before .put-difference .kept .0) (c .before .before .before .before .before .before .before .before .raised .ensures) (c .before .before .before .before .before .before .goal .ensures) (c .before .before .first .given .1) (c .before .before .before .before .before .before .goal .kept .1 .1 .1 .0)
-
-same-length-2 : tie.Need-same-length-2
-same-length-2 c = search needs
 
 returns-2 : tie.Need-returns-2
 returns-2 c = credits-judged (c .before .before .before .before .before .before .before .before .before .before .before .before .before .before .before .before .before .before .before .before .before .before .before .before .pre .0) (c .before .before .before .before .before .before .before .before .before .before .before .before .before .before .before .before .before .before .before .before .before .before .before .before .pre .1 .0) (c .before .before .before .before .before .before .before .before .before .before .before .before .before .before .before .before .before .before .before .before .before .before .before .before .pre .1 .1) (c .before .before .before .before .before .before .before .before .before .before .before .before .before .before .before .before .before .before .put-constant .ensures) (c .before .before .before .before .before .before .before .before .before .before .before .before .before .before .before .before .before .before .put-constant .kept .0) (c .before .before .before .before .before .before .before .before .before .before .before .before .before .before .put-difference .ensures) (c .before .before .before .before .before .before .before .before .before .before .before .before .before .before .put-difference .kept .0) (c .before .before .before .before .before .before .before .before .before .before .before .raised .ensures) (c .before .before .before .before .before .before .before .before .before .goal .ensures) (c .before .before .before .before .before .first .given .1) (c .before .before .before .before .before .before .before .before .before .goal .kept .1 .1 .1 .0) (c .before .before .goal2 .ensures)
@@ -49,17 +25,17 @@ pub credits-spec : {M : Type 1} → statement M
 credits-spec =
     tie.close
     (tie.spec
-    add-rest
-    cast-put-constant
+    (λ c. search needs)
+    (λ c. search needs)
     put-constant-requires
     put-difference-requires
-    add-raised
-    raised-requires
+    (λ c. search needs)
+    (λ c κs. search needs)
     goal-requires
-    enum-known-first
-    enum-told
-    same-length
+    (λ c. search needs)
+    (λ c. search needs)
+    (λ c. search needs)
     returns
     goal-requires-2
-    same-length-2
+    (λ c. search needs)
     returns-2)

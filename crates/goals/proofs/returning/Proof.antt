@@ -9,38 +9,14 @@ use Rattle.goals.proofs.Arriving.{put-asks, covers-asks, covers, return
 atoms-requires : tie.Need-atoms-requires
 atoms-requires c κs = (omega arith, going-fewer atomRoom (omega arith) (c .before .before .before .before .before .pre .0))
 
-enum-known-first : tie.Need-enum-known-first
-enum-known-first c = search needs
-
-enum-told : tie.Need-enum-told
-enum-told c = search needs
-
-same-length : tie.Need-same-length
-same-length c = search needs
-
 returns : tie.Need-returns
 returns c = returning-stopped (c .before .before .before .before .before .before .before .before .before .before .pre .0) (c .before .before .before .before .before .before .before .before .before .before .pre .1) (c .before .before .before .before .atoms .ensures) (c .enum-told .given .1)
-
-add-put-constant : tie.Need-add-put-constant
-add-put-constant c = search needs
-
-cast-put-constant : tie.Need-cast-put-constant
-cast-put-constant c = search needs
 
 put-constant-requires : tie.Need-put-constant-requires
 put-constant-requires c κs = let g = returning-asks (c .before .before .before .before .before .before .before .before .before .before .before .before .before .pre .0) (c .before .before .before .before .before .before .before .before .before .before .before .before .before .pre .1) (c .before .before .before .before .before .before .before .atoms .ensures) (c .before .before .before .first .given .1) (c .before .before .before .before .before .before .before .atoms .kept .1 .1 .1 .1 .1 .1 .1 .0) in put-asks (g .0) (g .1)
 
-add-raised : tie.Need-add-raised
-add-raised c = search needs
-
-raised-requires : tie.Need-raised-requires
-raised-requires c κs = search needs
-
 goal-requires : tie.Need-goal-requires
 goal-requires c κs = let g = returning-asks (c .before .before .before .before .before .before .before .before .before .before .before .before .before .before .before .before .before .before .pre .0) (c .before .before .before .before .before .before .before .before .before .before .before .before .before .before .before .before .before .before .pre .1) (c .before .before .before .before .before .before .before .before .before .before .before .before .atoms .ensures) (c .before .before .before .before .before .before .before .before .first .given .1) (c .before .before .before .before .before .before .before .before .before .before .before .before .atoms .kept .1 .1 .1 .1 .1 .1 .1 .0) in covers-asks (g .0) (g .1) (c .before .before .before .before .put-constant .ensures) (c .before .before .before .before .put-constant .kept .0) (c .before .raised .ensures)
-
-same-length-2 : tie.Need-same-length-2
-same-length-2 c = search needs
 
 returns-2 : tie.Need-returns-2
 returns-2 c = let g = returning-asks (c .before .before .before .before .before .before .before .before .before .before .before .before .before .before .before .before .before .before .before .before .before .pre .0) (c .before .before .before .before .before .before .before .before .before .before .before .before .before .before .before .before .before .before .before .before .before .pre .1) (c .before .before .before .before .before .before .before .before .before .before .before .before .before .before .before .atoms .ensures) (c .before .before .before .before .before .before .before .before .before .before .before .first .given .1) (c .before .before .before .before .before .before .before .before .before .before .before .before .before .before .before .atoms .kept .1 .1 .1 .1 .1 .1 .1 .0) in returning-judged (c .before .before .before .before .before .before .before .before .before .before .before .before .before .before .before .before .before .before .before .before .before .pre .0) (c .before .before .before .before .before .before .before .before .before .before .before .before .before .before .before .before .before .before .before .before .before .pre .1) (c .before .before .before .before .before .before .before .before .before .before .before .before .before .before .before .atoms .ensures) (c .before .before .before .before .before .before .before .before .before .before .before .first .given .1) (covers (g .0) (g .1) (c .before .before .before .before .before .before .before .put-constant .ensures) (c .before .before .before .before .before .before .before .put-constant .kept .0) (c .before .before .before .before .raised .ensures) (c .before .before .goal .ensures))
@@ -50,15 +26,15 @@ returning-spec =
     tie.close
     (tie.spec
     atoms-requires
-    enum-known-first
-    enum-told
-    same-length
+    (λ c. search needs)
+    (λ c. search needs)
+    (λ c. search needs)
     returns
-    add-put-constant
-    cast-put-constant
+    (λ c. search needs)
+    (λ c. search needs)
     put-constant-requires
-    add-raised
-    raised-requires
+    (λ c. search needs)
+    (λ c κs. search needs)
     goal-requires
-    same-length-2
+    (λ c. search needs)
     returns-2)

@@ -4,17 +4,8 @@ use borrow.Author.Needs.{needs}
 use Rattle.host_interface.proofs.start.Statement.{statement}
 use Rattle.host_interface.proofs.start.Tie as tie
 
-read-header-requires : tie.Need-read-header-requires
-read-header-requires c κs = search needs
-
-enum-known-answer : tie.Need-enum-known-answer
-enum-known-answer c = search needs
-
 proof-start-requires : tie.Need-proof-start-requires
 proof-start-requires c κs = let p = passed (c .before .before .before .read-header .ensures) (c .before .answer .given .1) .1 in omega arith
-
-enum-told : tie.Need-enum-told
-enum-told c = search needs
 
 returns : tie.Need-returns
 returns c = proof-part (c .before .before .before .before .read-header .ensures) (c .before .before .answer .given .1) _ (c .proof-start .ensures) .1
@@ -26,9 +17,9 @@ pub start-spec : {M : Type 1} → statement M
 start-spec =
     tie.close
     (tie.spec
-    read-header-requires
-    enum-known-answer
+    (λ c κs. search needs)
+    (λ c. search needs)
     proof-start-requires
-    enum-told
+    (λ c. search needs)
     returns
     returns-2)

@@ -27,26 +27,8 @@ abbrev R : ℕ → lts.Claims
 R t = (view-reads.Asked, view-reads.Learnt, change-reads.Asked, change-reads.Learnt, wide-reads.Asked, wide-reads.Learnt, below t, it.Post)
 
 module _ (t : ℕ) where
-  view-requires : lts.Need-view-requires (R t) (given t) it.Post
-  view-requires c κs = search needs
-
-  enum-known-n : lts.Need-enum-known-n (R t) (given t) it.Post
-  enum-known-n c = search needs
-
-  change-requires : lts.Need-change-requires (R t) (given t) it.Post
-  change-requires c κs = search needs
-
-  enum-known-v : lts.Need-enum-known-v (R t) (given t) it.Post
-  enum-known-v c = search needs
-
-  wide-requires : lts.Need-wide-requires (R t) (given t) it.Post
-  wide-requires c κs = search needs
-
   change-requires-2 : lts.Need-change-requires-2 (R t) (given t) it.Post
   change-requires-2 c κs = omega (arith, variable-within (c .before .before .before .before .before .before .before .before .pre .1) (c .before .before .before .before .before .view .ensures) (c .before .before .before .v .given .1), c .before .before .before .before .before .before .before .before .pre .1 .formed .room)
-
-  enum-known-l : lts.Need-enum-known-l (R t) (given t) it.Post
-  enum-known-l c = search needs
 
   accumulate-requires : lts.Need-accumulate-requires (R t) (given t) it.Post
   accumulate-requires c κs = first (c .before .before .before .before .before .before .before .pre .0) (sum-parts (c .before .before .before .before .before .before .before .pre .1) (c .before .before .before .before .view .ensures) (c .before .before .l .given .1))
@@ -54,38 +36,23 @@ module _ (t : ℕ) where
   accumulate-requires-2 : lts.Need-accumulate-requires-2 (R t) (given t) it.Post
   accumulate-requires-2 c κs = second (c .before .before .before .before .before .before .before .before .before .before .before .pre .0) (sum-parts (c .before .before .before .before .before .before .before .before .before .before .before .pre .1) (c .before .before .before .before .before .before .before .before .view .ensures) (c .before .before .before .before .before .before .l .given .1)) (c .before .before .before .accumulate .ensures)
 
-  enum-known-l-2 : lts.Need-enum-known-l-2 (R t) (given t) it.Post
-  enum-known-l-2 c = search needs
-
   accumulate-requires-3 : lts.Need-accumulate-requires-3 (R t) (given t) it.Post
   accumulate-requires-3 c κs = first (c .before .before .before .before .before .before .before .pre .0) (difference-parts (c .before .before .before .before .before .before .before .pre .1) (c .before .before .before .before .view .ensures) (c .before .before .l2 .given .1))
 
   accumulate-requires-4 : lts.Need-accumulate-requires-4 (R t) (given t) it.Post
   accumulate-requires-4 c κs = second (c .before .before .before .before .before .before .before .before .before .before .before .pre .0) (difference-parts (c .before .before .before .before .before .before .before .before .before .before .before .pre .1) (c .before .before .before .before .before .before .before .before .view .ensures) (c .before .before .before .before .before .before .l2 .given .1)) (c .before .before .before .accumulate3 .ensures)
 
-  same-length : lts.Need-same-length (R t) (given t) it.Post
-  same-length c = search needs
-
   returns : lts.Need-returns (R t) (given t) it.Post
   returns c = accumulated-constant (c .before .before .before .before .before .before .before .before .before .before .pre .1) (c .before .before .before .before .before .before .before .view .ensures) (λ k. omega (arith, c .before .before .before .before .before .before .before .before .before .slice-known .given k)) (c .before .before .before .before .before .n .given .1) (omega arith) (c .before .before .change .ensures)
-
-  same-length-2 : lts.Need-same-length-2 (R t) (given t) it.Post
-  same-length-2 c = search needs
 
   returns-2 : lts.Need-returns-2 (R t) (given t) it.Post
   returns-2 c = accumulated-variable (c .before .before .before .before .before .before .before .before .before .before .before .pre .1) (c .before .before .before .before .before .before .before .before .view .ensures) (λ k. omega (arith, c .before .before .before .before .before .before .before .before .before .before .slice-known .given k)) (c .before .before .before .before .before .before .v .given .1) (variable-within (c .before .before .before .before .before .before .before .before .before .before .before .pre .1) (c .before .before .before .before .before .before .before .before .view .ensures) (c .before .before .before .before .before .before .v .given .1)) (c .before .before .before .wide .ensures) (c .before .before .change2 .ensures)
 
-  same-length-3 : lts.Need-same-length-3 (R t) (given t) it.Post
-  same-length-3 c = search needs
-
   returns-3 : lts.Need-returns-3 (R t) (given t) it.Post
   returns-3 c = accumulated-sum (c .before .before .before .before .before .before .before .before .before .before .before .before .before .before .pre .1) (c .before .before .before .before .before .before .before .before .before .before .before .view .ensures) (c .before .before .before .before .before .before .accumulate .ensures) (c .before .before .before .before .before .before .before .before .before .l .given .1) (c .before .before .accumulate2 .ensures)
-
-  same-length-4 : lts.Need-same-length-4 (R t) (given t) it.Post
-  same-length-4 c = search needs
 
   returns-4 : lts.Need-returns-4 (R t) (given t) it.Post
   returns-4 c = accumulated-difference (c .before .before .before .before .before .before .before .before .before .before .before .before .before .before .pre .1) (c .before .before .before .before .before .before .before .before .before .before .before .view .ensures) (c .before .before .before .before .before .before .accumulate3 .ensures) (c .before .before .before .before .before .before .before .before .before .l2 .given .1) (c .before .before .accumulate4 .ensures)
 
 pub +accumulate-spec : {M : Type 1} → statement M
-+accumulate-spec = close μ (λ t. lts.spec (R t) (given t) it.Post (view-requires t) (enum-known-n t) (change-requires t) (enum-known-v t) (wide-requires t) (change-requires-2 t) (enum-known-l t) (accumulate-requires t) (accumulate-requires-2 t) (enum-known-l-2 t) (accumulate-requires-3 t) (accumulate-requires-4 t) (same-length t) (returns t) (same-length-2 t) (returns-2 t) (same-length-3 t) (returns-3 t) (same-length-4 t) (returns-4 t))
++accumulate-spec = close μ (λ t. lts.spec (R t) (given t) it.Post (λ c κs. search needs) (λ c. search needs) (λ c κs. search needs) (λ c. search needs) (λ c κs. search needs) (change-requires-2 t) (λ c. search needs) (accumulate-requires t) (accumulate-requires-2 t) (λ c. search needs) (accumulate-requires-3 t) (accumulate-requires-4 t) (λ c. search needs) (returns t) (λ c. search needs) (returns-2 t) (λ c. search needs) (returns-3 t) (λ c. search needs) (returns-4 t))

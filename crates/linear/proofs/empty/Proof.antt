@@ -3,17 +3,8 @@ use borrow.Author.Needs.{needs}
 use Rattle.linear.proofs.empty.Statement.{statement}
 use Rattle.linear.proofs.empty.Tie as tie
 
-empty-coefficients-requires : tie.Need-empty-coefficients-requires
-empty-coefficients-requires c κs = search needs
-
-take-requires : tie.Need-take-requires
-take-requires c κs = search needs
-
-same-length : tie.Need-same-length
-same-length c = search needs
-
 returns : tie.Need-returns
 returns c = emptied (c .before .before .before .before .before .before .before .before .before .pre .0) (c .before .before .before .before .before .before .before .before .before .pre .1) (c .before .before .before .before .before .before .empty-coefficients .ensures) (c .before .before .take .ensures .0) (c .before .before .take .ensures .1)
 
 pub empty-spec : {M : Type 1} → statement M
-empty-spec = tie.close (tie.spec empty-coefficients-requires take-requires same-length returns)
+empty-spec = tie.close (tie.spec (λ c κs. search needs) (λ c κs. search needs) (λ c. search needs) returns)

@@ -15,20 +15,8 @@ abbrev μ-loop : tie.MeasureT-loop
 loop-holds : tie.Need-loop-holds Inv-loop μ-loop
 loop-holds c = (taken-none _, search needs)
 
-take-requires : tie.Need-take-requires Inv-loop μ-loop
-take-requires c κs = search needs
-
-add-v : tie.Need-add-v Inv-loop μ-loop
-add-v c = search needs
-
-loop-less : tie.Need-loop-less Inv-loop μ-loop
-loop-less c = search needs
-
 loop-again : tie.Need-loop-again Inv-loop μ-loop
 loop-again c = (taken-more (c .before .before .before .before .before .loop .inv .0) (omega arith) (c .before .before .take .ensures .0) (c .before .before .take .ensures .1), omega arith)
-
-same-length : tie.Need-same-length Inv-loop μ-loop
-same-length c = search needs
 
 returns : tie.Need-returns Inv-loop μ-loop
 returns c = taken-all (c .before .loop .inv .0) (c .before .loop .inv .1) (omega arith)
@@ -40,9 +28,9 @@ empty-coefficients-spec =
     Inv-loop
     μ-loop
     loop-holds
-    take-requires
-    add-v
-    loop-less
+    (λ c κs. search needs)
+    (λ c. search needs)
+    (λ c. search needs)
     loop-again
-    same-length
+    (λ c. search needs)
     returns)

@@ -8,17 +8,11 @@ use Rattle.linear.proofs.pass.Tie as tie
 value-requires : tie.Need-value-requires
 value-requires c κs = words-enough (c .before .before .pre)
 
-same-length : tie.Need-same-length
-same-length c = search needs
-
 returns : tie.Need-returns
 returns c = passed-none _ _ (c .before .value .ensures) (c .if1 .taken)
 
 holds-value-requires : tie.Need-holds-value-requires
 holds-value-requires c κs = words-enough (c .before .before .before .before .before .pre)
-
-same-length-2 : tie.Need-same-length-2
-same-length-2 c = search needs
 
 returns-2 : tie.Need-returns-2
 returns-2 c = passed-closed _ _ (c .before .before .before .before .value .ensures) (c .before .holds-value .ensures) (c .if2 .taken)
@@ -29,20 +23,8 @@ node-at-requires c κs = words-enough (c .before .before .before .before .before
 set-value-requires : tie.Need-set-value-requires
 set-value-requires c κs = words-enough (c .before .before .before .before .before .before .before .before .before .before .pre)
 
-enum-told : tie.Need-enum-told
-enum-told c = search needs
-
-enum-known-node : tie.Need-enum-known-node
-enum-known-node c = search needs
-
-wide-requires : tie.Need-wide-requires
-wide-requires c κs = search needs
-
 change-requires : tie.Need-change-requires
 change-requires c κs = omega (arith, words-enough (c .before .before .before .before .before .before .before .before .before .before .before .before .before .before .before .before .before .before .pre), order-here (c .before .before .before .before .before .before .before .before .before .before .before .before .before .before .before .before .before .before .pre) (c .before .before .before .before .before .before .before .before .before .before .before .before .holds-value .ensures) (c .before .before .before .before .before .before .before .before .before .before .before .if2 .left) (c .before .before .before .before .before .before .before .before .before .node-at .ensures) (c .before .before .before .node .given .1))
-
-enum-known-node-2 : tie.Need-enum-known-node-2
-enum-known-node-2 c = search needs
 
 give-requires : tie.Need-give-requires
 give-requires c κs = omega (arith, words-enough (c .before .before .before .before .before .before .before .before .before .before .before .before .before .before .before .before .before .pre), order-here (c .before .before .before .before .before .before .before .before .before .before .before .before .before .before .before .before .before .pre) (c .before .before .before .before .before .before .before .before .before .before .before .holds-value .ensures) (c .before .before .before .before .before .before .before .before .before .before .if2 .left) (c .before .before .before .before .before .before .before .before .node-at .ensures) (c .before .before .node2 .given .1))
@@ -50,38 +32,20 @@ give-requires c κs = omega (arith, words-enough (c .before .before .before .bef
 give-requires-2 : tie.Need-give-requires-2
 give-requires-2 c κs = omega (arith, words-enough (c .before .before .before .before .before .before .before .before .before .before .before .before .before .before .before .before .before .before .before .before .before .pre), order-here (c .before .before .before .before .before .before .before .before .before .before .before .before .before .before .before .before .before .before .before .before .before .pre) (c .before .before .before .before .before .before .before .before .before .before .before .before .before .before .before .holds-value .ensures) (c .before .before .before .before .before .before .before .before .before .before .before .before .before .before .if2 .left) (c .before .before .before .before .before .before .before .before .before .before .before .before .node-at .ensures) (c .before .before .before .before .before .before .node2 .given .1))
 
-enum-known-node-3 : tie.Need-enum-known-node-3
-enum-known-node-3 c = search needs
-
 give-requires-3 : tie.Need-give-requires-3
 give-requires-3 c κs = omega (arith, words-enough (c .before .before .before .before .before .before .before .before .before .before .before .before .before .before .before .before .before .pre), order-here (c .before .before .before .before .before .before .before .before .before .before .before .before .before .before .before .before .before .pre) (c .before .before .before .before .before .before .before .before .before .before .before .holds-value .ensures) (c .before .before .before .before .before .before .before .before .before .before .if2 .left) (c .before .before .before .before .before .before .before .before .node-at .ensures) (c .before .before .node3 .given .1))
-
-sub-requires : tie.Need-sub-requires
-sub-requires c κs = search needs
 
 give-requires-4 : tie.Need-give-requires-4
 give-requires-4 c κs = omega (arith, words-enough (c .before .before .before .before .before .before .before .before .before .before .before .before .before .before .before .before .before .before .before .before .before .before .pre), order-here (c .before .before .before .before .before .before .before .before .before .before .before .before .before .before .before .before .before .before .before .before .before .before .pre) (c .before .before .before .before .before .before .before .before .before .before .before .before .before .before .before .before .holds-value .ensures) (c .before .before .before .before .before .before .before .before .before .before .before .before .before .before .before .if2 .left) (c .before .before .before .before .before .before .before .before .before .before .before .before .before .node-at .ensures) (c .before .before .before .before .before .before .before .node3 .given .1))
 
-same-length-3 : tie.Need-same-length-3
-same-length-3 c = search needs
-
 returns-3 : tie.Need-returns-3
 returns-3 c = passed-constant _ _ (c .before .before .before .before .before .before .before .before .before .before .before .before .value .ensures) (c .before .before .before .before .before .before .before .before .before .holds-value .ensures) (c .before .before .before .before .before .before .before .before .before .before .before .if1 .left) (c .before .before .before .before .before .before .before .before .if2 .left) (c .before .before .before .before .before .before .node-at .ensures) (c .before .before .before .before .set-value .ensures) (c .enum-told .given .1)
-
-same-length-4 : tie.Need-same-length-4
-same-length-4 c = search needs
 
 returns-4 : tie.Need-returns-4
 returns-4 c = passed-variable _ _ (c .before .before .before .before .before .before .before .before .before .before .before .before .before .before .before .before .before .before .value .ensures) (c .before .before .before .before .before .before .before .before .before .before .before .before .before .before .before .holds-value .ensures) (c .before .before .before .before .before .before .before .before .before .before .before .before .before .before .before .before .before .if1 .left) (c .before .before .before .before .before .before .before .before .before .before .before .before .before .before .if2 .left) (c .before .before .before .before .before .before .before .before .before .before .before .before .node-at .ensures) (c .before .before .before .before .before .before .before .before .before .before .set-value .ensures) (c .before .before .before .before .before .before .node .given .1) (c .before .before .before .wide .ensures) (c .before .before .change .ensures)
 
-same-length-5 : tie.Need-same-length-5
-same-length-5 c = search needs
-
 returns-5 : tie.Need-returns-5
 returns-5 c = passed-sum _ _ (c .before .before .before .before .before .before .before .before .before .before .before .before .before .before .before .before .before .before .before .before .before .value .ensures) (c .before .before .before .before .before .before .before .before .before .before .before .before .before .before .before .before .before .before .holds-value .ensures) (c .before .before .before .before .before .before .before .before .before .before .before .before .before .before .before .before .before .before .before .before .if1 .left) (c .before .before .before .before .before .before .before .before .before .before .before .before .before .before .before .before .before .if2 .left) (c .before .before .before .before .before .before .before .before .before .before .before .before .before .before .before .node-at .ensures) (c .before .before .before .before .before .before .before .before .before .before .before .before .before .set-value .ensures) _ (c .before .before .before .before .before .before .give .ensures) (c .before .before .give2 .ensures) (c .before .before .before .before .before .before .before .before .before .node2 .given .1) refl
-
-same-length-6 : tie.Need-same-length-6
-same-length-6 c = search needs
 
 returns-6 : tie.Need-returns-6
 returns-6 c = passed-difference _ _ (c .before .before .before .before .before .before .before .before .before .before .before .before .before .before .before .before .before .before .before .before .before .before .value .ensures) (c .before .before .before .before .before .before .before .before .before .before .before .before .before .before .before .before .before .before .before .holds-value .ensures) (c .before .before .before .before .before .before .before .before .before .before .before .before .before .before .before .before .before .before .before .before .before .if1 .left) (c .before .before .before .before .before .before .before .before .before .before .before .before .before .before .before .before .before .before .if2 .left) (c .before .before .before .before .before .before .before .before .before .before .before .before .before .before .before .before .node-at .ensures) (c .before .before .before .before .before .before .before .before .before .before .before .before .before .before .set-value .ensures) _ (c .before .before .before .before .before .before .before .give3 .ensures) (c .before .before .give4 .ensures) (c .before .before .before .before .before .before .before .before .before .before .node3 .given .1) (omega arith) (c .before .before .before .sub .ensures)
@@ -91,29 +55,29 @@ pass-spec =
     tie.close
     (tie.spec
     value-requires
-    same-length
+    (λ c. search needs)
     returns
     holds-value-requires
-    same-length-2
+    (λ c. search needs)
     returns-2
     node-at-requires
     set-value-requires
-    enum-told
-    enum-known-node
-    wide-requires
+    (λ c. search needs)
+    (λ c. search needs)
+    (λ c κs. search needs)
     change-requires
-    enum-known-node-2
+    (λ c. search needs)
     give-requires
     give-requires-2
-    enum-known-node-3
+    (λ c. search needs)
     give-requires-3
-    sub-requires
+    (λ c κs. search needs)
     give-requires-4
-    same-length-3
+    (λ c. search needs)
     returns-3
-    same-length-4
+    (λ c. search needs)
     returns-4
-    same-length-5
+    (λ c. search needs)
     returns-5
-    same-length-6
+    (λ c. search needs)
     returns-6)

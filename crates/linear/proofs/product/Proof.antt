@@ -7,11 +7,5 @@ use Rattle.linear.proofs.product.Tie as tie
 mul-result : tie.Need-mul-result
 mul-result c = omega (arith, product-fits (c .args .a) (c .args .b) (omega arith) (omega arith))
 
-cast-result : tie.Need-cast-result
-cast-result c = search needs
-
-returns : tie.Need-returns
-returns c = search needs
-
 pub product-spec : {M : Type 1} → statement M
-product-spec = tie.close (tie.spec mul-result cast-result returns)
+product-spec = tie.close (tie.spec mul-result (λ c. search needs) (λ c. search needs))

@@ -15,14 +15,8 @@ abbrev μ-loop : tie.MeasureT-loop
 loop-holds : tie.Need-loop-holds Inv-loop μ-loop
 loop-holds c = (passed-start _ _, omega arith)
 
-sub-k : tie.Need-sub-k Inv-loop μ-loop
-sub-k c = search needs
-
 pass-requires : tie.Need-pass-requires Inv-loop μ-loop
 pass-requires c κs = weighable-more (c .before .before .loop .inv .0) (c .before .before .before .before .pre) (c .before .before .loop .inv .1) _ (omega arith)
-
-loop-less : tie.Need-loop-less Inv-loop μ-loop
-loop-less c = search needs
 
 loop-again : tie.Need-loop-again Inv-loop μ-loop
 loop-again c = (passed-more (c .before .before .before .before .before .loop .inv .0) _ (c .before .before .before .before .before .loop .inv .1) (omega arith) (c .before .before .pass .ensures), omega arith)
@@ -40,9 +34,9 @@ spread-spec =
     Inv-loop
     μ-loop
     loop-holds
-    sub-k
+    (λ c. search needs)
     pass-requires
-    loop-less
+    (λ c. search needs)
     loop-again
     same-length
     returns)

@@ -5,30 +5,15 @@ use Rattle.model.specs.Rule.{premises}
 use Rattle.logic_rules.proofs.assumed.Statement.{statement}
 use Rattle.logic_rules.proofs.assumed.Tie as tie
 
-enum-known-claim : tie.Need-enum-known-claim
-enum-known-claim c = search needs
-
-unfit-requires : tie.Need-unfit-requires
-unfit-requires c κs = search needs
-
 returns : tie.Need-returns
 unfolding premises
 returns c = not-atom (c .before .before .before .args .claim) _ (c .before .before .before .pre .0) (c .before .match .keys2) (c .unfit .ensures)
-
-unfit-requires-2 : tie.Need-unfit-requires-2
-unfit-requires-2 c κs = search needs
 
 returns-2 : tie.Need-returns-2
 returns-2 c = assumption-past _ _ (c .before .before .before .before .before .before .pre .0) _ (c .before .before .before .claim .given .1) (c .before .if1 .taken) (c .unfit2 .ensures)
 
 is-assumption-requires : tie.Need-is-assumption-requires
 is-assumption-requires c κs = assumption-asks (c .before .before .before .before .before .pre .0) (c .before .before .before .before .before .pre .1 .0) (c .before .before .before .before .before .pre .1 .1) (c .before .before .claim .given .1) (c .if1 .left)
-
-none-requires : tie.Need-none-requires
-none-requires c κs = search needs
-
-unfit-requires-3 : tie.Need-unfit-requires-3
-unfit-requires-3 c κs = search needs
 
 returns-3 : tie.Need-returns-3
 returns-3 c = assumption-fits _ _ (c .before .before .before .before .before .before .before .before .pre .0) _ (c .before .before .before .before .before .claim .given .1) (c .before .before .before .if1 .left) (c .before .before .is-assumption .ensures) (c .before .if2 .taken) (c .none .ensures)
@@ -40,13 +25,13 @@ pub assumed-spec : {M : Type 1} → statement M
 assumed-spec =
     tie.close
     (tie.spec
-    enum-known-claim
-    unfit-requires
+    (λ c. search needs)
+    (λ c κs. search needs)
     returns
-    unfit-requires-2
+    (λ c κs. search needs)
     returns-2
     is-assumption-requires
-    none-requires
-    unfit-requires-3
+    (λ c κs. search needs)
+    (λ c κs. search needs)
     returns-3
     returns-4)

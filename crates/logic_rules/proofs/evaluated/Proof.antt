@@ -6,12 +6,6 @@ use Rattle.model.specs.Rule.{premises}
 use Rattle.logic_rules.proofs.evaluated.Statement.{statement}
 use Rattle.logic_rules.proofs.evaluated.Tie as tie
 
-enum-known-claim : tie.Need-enum-known-claim
-enum-known-claim c = search needs
-
-unfit-requires : tie.Need-unfit-requires
-unfit-requires c κs = search needs
-
 returns : tie.Need-returns
 unfolding premises
 returns c = not-atom (c .before .before .before .args .claim) _ (c .before .before .before .pre .0) (c .before .match .keys2) (c .unfit .ensures)
@@ -19,41 +13,14 @@ returns c = not-atom (c .before .before .before .args .claim) _ (c .before .befo
 evaluate-requires : tie.Need-evaluate-requires
 evaluate-requires c κs = formed-at (c .before .before .before .before .pre .0) (told-below _ (c .before .claim .given .1) (c .before .before .before .before .pre .1) .0)
 
-enum-known-a : tie.Need-enum-known-a
-enum-known-a c = search needs
-
-enum-told : tie.Need-enum-told
-enum-told c = search needs
-
-unfit-requires-2 : tie.Need-unfit-requires-2
-unfit-requires-2 c κs = search needs
-
 returns-2 : tie.Need-returns-2
 returns-2 c = evaluation-left _ (c .before .before .before .before .before .before .before .before .pre .0) (c .before .before .before .before .before .claim .given .1) (sym (c .before .enum-told .given .1) ∙ c .before .before .before .evaluate .ensures) (c .unfit2 .ensures)
 
 evaluate-requires-2 : tie.Need-evaluate-requires-2
 evaluate-requires-2 c κs = formed-at (c .before .before .before .before .before .before .before .before .pre .0) (told-below _ (c .before .before .before .before .before .claim .given .1) (c .before .before .before .before .before .before .before .before .pre .1) .1)
 
-enum-known-b : tie.Need-enum-known-b
-enum-known-b c = search needs
-
-enum-told-2 : tie.Need-enum-told-2
-enum-told-2 c = search needs
-
-unfit-requires-3 : tie.Need-unfit-requires-3
-unfit-requires-3 c κs = search needs
-
 returns-3 : tie.Need-returns-3
 returns-3 c = evaluation-right _ (c .before .before .before .before .before .before .before .before .before .before .before .before .pre .0) (c .before .before .before .before .before .before .before .before .before .claim .given .1) (sym (c .before .before .before .before .before .a .given .1) ∙ c .before .before .before .before .before .before .before .evaluate .ensures) (sym (c .before .enum-told2 .given .1) ∙ c .before .before .before .evaluate2 .ensures) (c .unfit3 .ensures)
-
-holds-requires : tie.Need-holds-requires
-holds-requires c κs = search needs
-
-none-requires : tie.Need-none-requires
-none-requires c κs = search needs
-
-unfit-requires-4 : tie.Need-unfit-requires-4
-unfit-requires-4 c κs = search needs
 
 returns-4 : tie.Need-returns-4
 returns-4 c = evaluation-fits _ (c .before .before .before .before .before .before .before .before .before .before .before .before .before .before .before .pre .0) (c .before .before .before .before .before .before .before .before .before .before .before .before .claim .given .1) (sym (c .before .before .before .before .before .before .before .before .a .given .1) ∙ c .before .before .before .before .before .before .before .before .before .before .evaluate .ensures) (sym (c .before .before .before .before .b .given .1) ∙ c .before .before .before .before .before .before .evaluate2 .ensures) (c .before .before .holds .ensures) (c .before .if1 .taken) (c .none .ensures)
@@ -65,21 +32,21 @@ pub evaluated-spec : {M : Type 1} → statement M
 evaluated-spec =
     tie.close
     (tie.spec
-    enum-known-claim
-    unfit-requires
+    (λ c. search needs)
+    (λ c κs. search needs)
     returns
     evaluate-requires
-    enum-known-a
-    enum-told
-    unfit-requires-2
+    (λ c. search needs)
+    (λ c. search needs)
+    (λ c κs. search needs)
     returns-2
     evaluate-requires-2
-    enum-known-b
-    enum-told-2
-    unfit-requires-3
+    (λ c. search needs)
+    (λ c. search needs)
+    (λ c κs. search needs)
     returns-3
-    holds-requires
-    none-requires
-    unfit-requires-4
+    (λ c κs. search needs)
+    (λ c κs. search needs)
+    (λ c κs. search needs)
     returns-4
     returns-5)

@@ -5,63 +5,9 @@ use Rattle.logic_rules.proofs.LogicLaws.{exchanged-fits, same-fits, bot
 use Rattle.logic_rules.proofs.from_sides.Statement.{statement}
 use Rattle.logic_rules.proofs.from_sides.Tie as tie
 
-sides-requires : tie.Need-sides-requires
-sides-requires c κs = search needs
-
-enum-known-a : tie.Need-enum-known-a
-enum-known-a c = search needs
-
-enum-told : tie.Need-enum-told
-enum-told c = search needs
-
-unfit-requires : tie.Need-unfit-requires
-unfit-requires c κs = search needs
-
 returns : tie.Need-returns
 unfolding sidePremises
 returns c = λ ws f. no-sides _ f (sides-told (c .before .before .before .sides .ensures) (c .before .enum-told .given .1)) (c .unfit .ensures)
-
-enum-told-2 : tie.Need-enum-told-2
-enum-told-2 c = search needs
-
-compared-requires : tie.Need-compared-requires
-compared-requires c κs = search needs
-
-one-requires : tie.Need-one-requires
-one-requires c κs = search needs
-
-enum-told-3 : tie.Need-enum-told-3
-enum-told-3 c = search needs
-
-compared-requires-2 : tie.Need-compared-requires-2
-compared-requires-2 c κs = search needs
-
-one-requires-2 : tie.Need-one-requires-2
-one-requires-2 c κs = search needs
-
-enum-told-4 : tie.Need-enum-told-4
-enum-told-4 c = search needs
-
-compared-requires-3 : tie.Need-compared-requires-3
-compared-requires-3 c κs = search needs
-
-compared-requires-4 : tie.Need-compared-requires-4
-compared-requires-4 c κs = search needs
-
-two-requires : tie.Need-two-requires
-two-requires c κs = search needs
-
-enum-told-5 : tie.Need-enum-told-5
-enum-told-5 c = search needs
-
-compared-requires-5 : tie.Need-compared-requires-5
-compared-requires-5 c κs = search needs
-
-compared-requires-6 : tie.Need-compared-requires-6
-compared-requires-6 c κs = search needs
-
-two-requires-2 : tie.Need-two-requires-2
-two-requires-2 c κs = search needs
 
 returns-2 : tie.Need-returns-2
 returns-2 c = λ ws f. exchanged-fits f (c .before .before .before .before .before .before .before .before .pre .0) (sides-told (c .before .before .before .before .before .before .before .sides .ensures) (c .before .before .before .before .before .a .given .1)) _ _ _ (c .before .before .enum-told2 .given .1) (c .before .compared .ensures) (c .one .ensures)
@@ -79,25 +25,25 @@ pub from-sides-spec : {M : Type 1} → statement M
 from-sides-spec =
     tie.close
     (tie.spec
-    sides-requires
-    enum-known-a
-    enum-told
-    unfit-requires
+    (λ c κs. search needs)
+    (λ c. search needs)
+    (λ c. search needs)
+    (λ c κs. search needs)
     returns
-    enum-told-2
-    compared-requires
-    one-requires
-    enum-told-3
-    compared-requires-2
-    one-requires-2
-    enum-told-4
-    compared-requires-3
-    compared-requires-4
-    two-requires
-    enum-told-5
-    compared-requires-5
-    compared-requires-6
-    two-requires-2
+    (λ c. search needs)
+    (λ c κs. search needs)
+    (λ c κs. search needs)
+    (λ c. search needs)
+    (λ c κs. search needs)
+    (λ c κs. search needs)
+    (λ c. search needs)
+    (λ c κs. search needs)
+    (λ c κs. search needs)
+    (λ c κs. search needs)
+    (λ c. search needs)
+    (λ c κs. search needs)
+    (λ c κs. search needs)
+    (λ c κs. search needs)
     returns-2
     returns-3
     returns-4

@@ -5,30 +5,12 @@ use Rattle.logic_rules.specs.Sides.{reflexivePremises}
 use Rattle.logic_rules.proofs.reflexive.Statement.{statement}
 use Rattle.logic_rules.proofs.reflexive.Tie as tie
 
-sides-requires : tie.Need-sides-requires
-sides-requires c κs = search needs
-
-enum-known-a : tie.Need-enum-known-a
-enum-known-a c = search needs
-
-enum-told : tie.Need-enum-told
-enum-told c = search needs
-
-unfit-requires : tie.Need-unfit-requires
-unfit-requires c κs = search needs
-
 returns : tie.Need-returns
 unfolding reflexivePremises
 returns c = no-sides _ (c .before .before .before .before .before .pre .0) (sides-told (c .before .before .before .sides .ensures) (c .before .enum-told .given .1)) (c .unfit .ensures)
 
 same-requires : tie.Need-same-requires
 same-requires c κs = let j = sides-told (c .before .before .before .sides .ensures) (c .before .a .given .1) .below _ (c .before .before .before .before .before .pre .1) in (formed-at (c .before .before .before .before .before .pre .0) (j .0), formed-at (c .before .before .before .before .before .pre .0) (j .1))
-
-none-requires : tie.Need-none-requires
-none-requires c κs = search needs
-
-unfit-requires-2 : tie.Need-unfit-requires-2
-unfit-requires-2 c κs = search needs
 
 returns-2 : tie.Need-returns-2
 unfolding reflexivePremises
@@ -42,13 +24,13 @@ pub reflexive-spec : {M : Type 1} → statement M
 reflexive-spec =
     tie.close
     (tie.spec
-    sides-requires
-    enum-known-a
-    enum-told
-    unfit-requires
+    (λ c κs. search needs)
+    (λ c. search needs)
+    (λ c. search needs)
+    (λ c κs. search needs)
     returns
     same-requires
-    none-requires
-    unfit-requires-2
+    (λ c κs. search needs)
+    (λ c κs. search needs)
     returns-2
     returns-3)

@@ -3,26 +3,8 @@ use borrow.Author.Needs.{needs}
 use Rattle.machine.proofs.store.Statement.{statement}
 use Rattle.machine.proofs.store.Tie as tie
 
-word-requires : tie.Need-word-requires
-word-requires c κs = search needs
-
-add-requires : tie.Need-add-requires
-add-requires c κs = search needs
-
-wide-requires : tie.Need-wide-requires
-wide-requires c κs = search needs
-
-writable-requires : tie.Need-writable-requires
-writable-requires c κs = search needs
-
-word-requires-2 : tie.Need-word-requires-2
-word-requires-2 c κs = search needs
-
 put-requires : tie.Need-put-requires
 put-requires c κs = (steps.inside _ _ _ _ _ (c .before .before .before .writable .ensures) (c .before .before .if1 .taken), c .before .before .before .before .before .before .before .before .before .pre .low)
-
-same-length : tie.Need-same-length
-same-length c = search needs
 
 returns : tie.Need-returns
 returns c = steps.stores _ _ _ _ _ _ _ _ _ _ (c .before .before .before .before .before .before .before .before .before .word .ensures) (c .before .before .before .before .before .before .before .before .add .ensures) (c .before .before .before .before .before .before .before .wide .ensures) _ (c .before .before .before .before .before .before .writable .ensures) (c .before .before .before .before .before .if1 .taken) _ (c .before .before .before .before .word2 .ensures) _ _ (c .before .before .put .ensures)
@@ -34,12 +16,12 @@ pub store-spec : {M : Type 1} → statement M
 store-spec =
     tie.close
     (tie.spec
-    word-requires
-    add-requires
-    wide-requires
-    writable-requires
-    word-requires-2
+    (λ c κs. search needs)
+    (λ c κs. search needs)
+    (λ c κs. search needs)
+    (λ c κs. search needs)
+    (λ c κs. search needs)
     put-requires
-    same-length
+    (λ c. search needs)
     returns
     returns-2)

@@ -5,20 +5,8 @@ use borrow.Author.Needs.{needs}
 use Rattle.pcc_run.proofs.run_start.Statement.{statement}
 use Rattle.pcc_run.proofs.run_start.Tie as tie
 
-rest-requires : tie.Need-rest-requires
-rest-requires c κs = search needs
-
-rest-requires-2 : tie.Need-rest-requires-2
-rest-requires-2 c κs = search needs
-
-array-borrow-prefix-registers : tie.Need-array-borrow-prefix-registers
-array-borrow-prefix-registers c = search needs
-
 slice-aggregate-run-on : tie.Need-slice-aggregate-run-on
 slice-aggregate-run-on c = laws.counted _ _ (omega (arith, c .before .before .rest .ensures))
-
-array-borrow-prefix-memory : tie.Need-array-borrow-prefix-memory
-array-borrow-prefix-memory c = search needs
 
 slice-aggregate-run-on-2 : tie.Need-slice-aggregate-run-on-2
 slice-aggregate-run-on-2 c = laws.counted _ _ (omega (arith, c .before .before .rest2 .ensures))
@@ -26,18 +14,15 @@ slice-aggregate-run-on-2 c = laws.counted _ _ (omega (arith, c .before .before .
 run-on-requires : tie.Need-run-on-requires
 run-on-requires c κs = (laws.filled _ _ _ (omega (arith, c .before .before .before .rest .ensures)) (c .before .before .before .rest .ensures), laws.filled _ (c .before .before .rest2 .result) (memoryWords (c .before .before .before .before .before .before .before .args .start .now)) (omega (arith, c .before .before .rest2 .ensures)) (omega (arith, c .before .before .rest2 .ensures, c .before .before .before .before .before .before .before .pre)))
 
-returns : tie.Need-returns
-returns c = search needs
-
 pub run-start-spec : {M : Type 1} → statement M
 run-start-spec =
     tie.close
     (tie.spec
-    rest-requires
-    rest-requires-2
-    array-borrow-prefix-registers
+    (λ c κs. search needs)
+    (λ c κs. search needs)
+    (λ c. search needs)
     slice-aggregate-run-on
-    array-borrow-prefix-memory
+    (λ c. search needs)
     slice-aggregate-run-on-2
     run-on-requires
-    returns)
+    (λ c. search needs))

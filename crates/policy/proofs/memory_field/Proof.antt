@@ -7,14 +7,8 @@ use Rattle.policy.proofs.memory_field.Tie as tie
 returns : tie.Need-returns
 returns c = laws.no-word _ (c .if1 .taken)
 
-word-requires : tie.Need-word-requires
-word-requires c κs = search needs
-
-in-range-requires : tie.Need-in-range-requires
-in-range-requires c κs = search needs
-
 returns-2 : tie.Need-returns-2
 returns-2 c = laws.a-word _ _ (c .before .before .if1 .left) (rw (← c .before .word .ensures) (c .in-range .ensures))
 
 pub memory-field-spec : {M : Type 1} → statement M
-memory-field-spec = tie.close (tie.spec returns word-requires in-range-requires returns-2)
+memory-field-spec = tie.close (tie.spec returns (λ c κs. search needs) (λ c κs. search needs) returns-2)

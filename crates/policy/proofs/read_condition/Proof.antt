@@ -4,18 +4,6 @@ use Rattle.policy.proofs.ConditionsLaws as laws
 use Rattle.policy.proofs.read_condition.Statement.{statement}
 use Rattle.policy.proofs.read_condition.Tie as tie
 
-atoms-requires : tie.Need-atoms-requires
-atoms-requires c κs = search needs
-
-enum-known-next : tie.Need-enum-known-next
-enum-known-next c = search needs
-
-enum-told : tie.Need-enum-told
-enum-told c = search needs
-
-enum-known-place : tie.Need-enum-known-place
-enum-known-place c = search needs
-
 returns : tie.Need-returns
 returns c = laws.condition-whole _ _ _ _ (c .before .before .before .atoms .ensures) _ (c .before .before .before .before .before .pre) (c .before .next .given .1)
 
@@ -29,10 +17,10 @@ pub read-condition-spec : {M : Type 1} → statement M
 read-condition-spec =
     tie.close
     (tie.spec
-    atoms-requires
-    enum-known-next
-    enum-told
-    enum-known-place
+    (λ c κs. search needs)
+    (λ c. search needs)
+    (λ c. search needs)
+    (λ c. search needs)
     returns
     returns-2
     returns-3)

@@ -4,26 +4,11 @@ use Rattle.policy.proofs.ConditionsLaws as laws
 use Rattle.policy.proofs.read_conditions.Statement.{statement}
 use Rattle.policy.proofs.read_conditions.Tie as tie
 
-read-condition-requires : tie.Need-read-condition-requires
-read-condition-requires c κs = search needs
-
-enum-known-next : tie.Need-enum-known-next
-enum-known-next c = search needs
-
-enum-known-refusal : tie.Need-enum-known-refusal
-enum-known-refusal c = search needs
-
 returns : tie.Need-returns
 returns c = laws.first-stops _ _ _ _ (c .before .before .before .read-condition .ensures) _ (c .before .refusal .given .1)
 
 read-condition-requires-2 : tie.Need-read-condition-requires-2
 read-condition-requires-2 c κs = c .before .before .before .read-condition .ensures .passed _ (c .before .next .given .1) .inside
-
-enum-known-next-2 : tie.Need-enum-known-next-2
-enum-known-next-2 c = search needs
-
-enum-known-refusal-2 : tie.Need-enum-known-refusal-2
-enum-known-refusal-2 c = search needs
 
 returns-2 : tie.Need-returns-2
 returns-2 c = laws.second-stops _ _ _ _ (c .before .before .before .before .before .before .before .read-condition .ensures) _ (c .before .before .before .before .before .next .given .1) _ (c .before .before .before .read-condition2 .ensures) _ (c .before .refusal2 .given .1)
@@ -38,13 +23,13 @@ pub read-conditions-spec : {M : Type 1} → statement M
 read-conditions-spec =
     tie.close
     (tie.spec
-    read-condition-requires
-    enum-known-next
-    enum-known-refusal
+    (λ c κs. search needs)
+    (λ c. search needs)
+    (λ c. search needs)
     returns
     read-condition-requires-2
-    enum-known-next-2
-    enum-known-refusal-2
+    (λ c. search needs)
+    (λ c. search needs)
     returns-2
     returns-3
     returns-4)

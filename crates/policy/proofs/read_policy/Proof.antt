@@ -5,18 +5,6 @@ use Rattle.policy.proofs.PolicyLaws as laws
 use Rattle.policy.proofs.read_policy.Statement.{statement}
 use Rattle.policy.proofs.read_policy.Tie as tie
 
-read-sizes-requires : tie.Need-read-sizes-requires
-read-sizes-requires c κs = search needs
-
-enum-known-sizes : tie.Need-enum-known-sizes
-enum-known-sizes c = search needs
-
-enum-known-refusal : tie.Need-enum-known-refusal
-enum-known-refusal c = search needs
-
-refused-requires : tie.Need-refused-requires
-refused-requires c κs = search needs
-
 returns : tie.Need-returns
 returns c = laws.refuses _ _ _ (c .refused .ensures) (laws.no-sizes _ _ (c .before .before .before .before .read-sizes .ensures) _ (c .before .before .refusal .given .1))
 
@@ -26,38 +14,14 @@ mul-start c = omega (arith, laws.bounds _ _ (c .before .before .before .before .
 add-start : tie.Need-add-start
 add-start c = omega (arith, laws.bounds _ _ (c .before .before .before .before .read-sizes .ensures) _ (c .before .before .sizes .given .1) .few-regions)
 
-refused-requires-2 : tie.Need-refused-requires-2
-refused-requires-2 c κs = search needs
-
 returns-2 : tie.Need-returns-2
 returns-2 c = laws.refuses _ _ _ (c .refused2 .ensures) (laws.no-arrays _ _ (c .before .before .before .before .before .before .read-sizes .ensures) _ (c .before .before .before .before .sizes .given .1) (c .before .if1 .taken))
 
 read-regions-requires : tie.Need-read-regions-requires
 read-regions-requires c κs = (laws.bounds _ _ (c .before .before .before .before .before .read-sizes .ensures) _ (c .before .before .before .sizes .given .1) .few-regions, c .if1 .left)
 
-enum-known-answer : tie.Need-enum-known-answer
-enum-known-answer c = search needs
-
-refused-requires-3 : tie.Need-refused-requires-3
-refused-requires-3 c κs = search needs
-
 returns-3 : tie.Need-returns-3
 returns-3 c = laws.refuses _ _ _ (c .refused3 .ensures) (laws.no-regions _ _ (c .before .before .before .before .before .before .before .before .before .before .read-sizes .ensures) _ (c .before .before .before .before .before .before .before .before .sizes .given .1) (c .before .before .before .before .before .if1 .left) _ (c .before .before .before .before .read-regions .ensures) _ (c .before .before .answer .given .1))
-
-enum-told : tie.Need-enum-told
-enum-told c = search needs
-
-read-conditions-requires : tie.Need-read-conditions-requires
-read-conditions-requires c κs = search needs
-
-enum-known-postcondition : tie.Need-enum-known-postcondition
-enum-known-postcondition c = search needs
-
-enum-known-refusal-2 : tie.Need-enum-known-refusal-2
-enum-known-refusal-2 c = search needs
-
-refused-requires-4 : tie.Need-refused-requires-4
-refused-requires-4 c κs = search needs
 
 returns-4 : tie.Need-returns-4
 returns-4 c = laws.refuses _ _ _ (c .refused4 .ensures) (laws.no-conditions _ _ (c .before .before .before .before .before .before .before .before .before .before .before .before .before .read-sizes .ensures) _ (c .before .before .before .before .before .before .before .before .before .before .before .sizes .given .1) (c .before .before .before .before .before .before .before .before .if1 .left) _ (c .before .before .before .before .before .before .before .read-regions .ensures) (c .before .before .before .before .before .enum-told .given .1) _ (c .before .before .before .before .read-conditions .ensures) _ (c .before .before .refusal2 .given .1))
@@ -69,23 +33,23 @@ pub read-policy-spec : {M : Type 1} → statement M
 read-policy-spec =
     tie.close
     (tie.spec
-    read-sizes-requires
-    enum-known-sizes
-    enum-known-refusal
-    refused-requires
+    (λ c κs. search needs)
+    (λ c. search needs)
+    (λ c. search needs)
+    (λ c κs. search needs)
     returns
     mul-start
     add-start
-    refused-requires-2
+    (λ c κs. search needs)
     returns-2
     read-regions-requires
-    enum-known-answer
-    refused-requires-3
+    (λ c. search needs)
+    (λ c κs. search needs)
     returns-3
-    enum-told
-    read-conditions-requires
-    enum-known-postcondition
-    enum-known-refusal-2
-    refused-requires-4
+    (λ c. search needs)
+    (λ c κs. search needs)
+    (λ c. search needs)
+    (λ c. search needs)
+    (λ c κs. search needs)
     returns-4
     returns-5)

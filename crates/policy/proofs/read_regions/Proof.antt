@@ -17,26 +17,8 @@ abbrev μ-loop : tie.MeasureT-loop
 loop-holds : tie.Need-loop-holds Inv-loop μ-loop
 loop-holds c = laws.begin _ _ _ (c .before .pre .0) refl
 
-region-requires : tie.Need-region-requires Inv-loop μ-loop
-region-requires c κs = search needs
-
-fits-requires : tie.Need-fits-requires Inv-loop μ-loop
-fits-requires c κs = search needs
-
 returns : tie.Need-returns Inv-loop μ-loop
 returns c = laws.stops _ _ _ _ (c .before .before .before .before .before .loop .inv) (c .before .before .before .if1 .taken) _ (c .before .before .region .ensures) _ (c .before .fits2 .ensures) (not-true _ (c .if2 .taken))
-
-mul-regions : tie.Need-mul-regions Inv-loop μ-loop
-mul-regions c = search needs
-
-array-set-from-regions : tie.Need-array-set-from-regions Inv-loop μ-loop
-array-set-from-regions c = search needs
-
-add-j : tie.Need-add-j Inv-loop μ-loop
-add-j c = search needs
-
-loop-less : tie.Need-loop-less Inv-loop μ-loop
-loop-less c = search needs
 
 loop-again : tie.Need-loop-again Inv-loop μ-loop
 loop-again c = laws.further _ _ _ _ (c .before .before .before .before .before .loop .inv) (c .before .before .before .if1 .taken) _ (c .before .before .region .ensures) _ (c .before .fits2 .ensures) (not-false _ (c .if2 .left))
@@ -51,12 +33,12 @@ read-regions-spec =
     Inv-loop
     μ-loop
     loop-holds
-    region-requires
-    fits-requires
+    (λ c κs. search needs)
+    (λ c κs. search needs)
     returns
-    mul-regions
-    array-set-from-regions
-    add-j
-    loop-less
+    (λ c. search needs)
+    (λ c. search needs)
+    (λ c. search needs)
+    (λ c. search needs)
     loop-again
     returns-2)

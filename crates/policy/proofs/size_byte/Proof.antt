@@ -8,14 +8,8 @@ use Rattle.policy.proofs.size_byte.Tie as tie
 returns : tie.Need-returns
 returns c = laws.no-byte _ _ _ _ (c .if1 .taken)
 
-shared-slice-read-in-range : tie.Need-shared-slice-read-in-range
-shared-slice-read-in-range c = search needs
-
 cast-in-range : tie.Need-cast-in-range
 cast-in-range c = omega (arith, c .shared-slice-known2 .given (c .before .before .before .args .at))
-
-in-range-requires : tie.Need-in-range-requires
-in-range-requires c κs = search needs
 
 returns-2 : tie.Need-returns-2
 returns-2 c = laws.a-byte _ _ _ _ _ (c .before .before .if1 .left) (c .in-range .ensures)
@@ -23,4 +17,4 @@ returns-2 c = laws.a-byte _ _ _ _ _ (c .before .before .if1 .left) (c .in-range 
 pub size-byte-spec : {M : Type 1} → statement M
 size-byte-spec =
     tie.close
-    (tie.spec returns shared-slice-read-in-range cast-in-range in-range-requires returns-2)
+    (tie.spec returns (λ c. search needs) cast-in-range (λ c κs. search needs) returns-2)

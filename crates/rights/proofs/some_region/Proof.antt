@@ -15,23 +15,8 @@ abbrev μ-loop : tie.MeasureT-loop
 loop-holds : tie.Need-loop-holds Inv-loop μ-loop
 loop-holds c = rights.begin _ _ _ _ (c .pre) (c .good .0 .1 .0 .1)
 
-mul-gives : tie.Need-mul-gives Inv-loop μ-loop
-mul-gives c = search needs
-
-array-copy-out-gives : tie.Need-array-copy-out-gives Inv-loop μ-loop
-array-copy-out-gives c = search needs
-
-gives-requires : tie.Need-gives-requires Inv-loop μ-loop
-gives-requires c κs = search needs
-
 returns : tie.Need-returns Inv-loop μ-loop
 returns c = rights.found _ _ _ _ _ (c .before .before .before .before .loop .inv) (c .before .before .before .loop-test .taken) _ (c .before .gives .ensures) (c .if1 .taken)
-
-add-j : tie.Need-add-j Inv-loop μ-loop
-add-j c = search needs
-
-loop-less : tie.Need-loop-less Inv-loop μ-loop
-loop-less c = search needs
 
 loop-again : tie.Need-loop-again Inv-loop μ-loop
 loop-again c = rights.further _ _ _ _ _ (c .before .before .before .before .loop .inv) (c .before .before .before .loop-test .taken) _ (c .before .gives .ensures) (c .if1 .left)
@@ -46,11 +31,11 @@ some-region-spec =
     Inv-loop
     μ-loop
     loop-holds
-    mul-gives
-    array-copy-out-gives
-    gives-requires
+    (λ c. search needs)
+    (λ c. search needs)
+    (λ c κs. search needs)
     returns
-    add-j
-    loop-less
+    (λ c. search needs)
+    (λ c. search needs)
     loop-again
     returns-2)

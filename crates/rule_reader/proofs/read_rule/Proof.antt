@@ -6,50 +6,20 @@ use Rattle.rule_reader.proofs.read_rule.Tie as tie
 returns : tie.Need-returns
 returns c = opens-missing (c .before .before .before .pre .formed) (c .if1 .taken)
 
-shared-slice-read-wide-byte : tie.Need-shared-slice-read-wide-byte
-shared-slice-read-wide-byte c = search needs
-
-wide-byte-requires : tie.Need-wide-byte-requires
-wide-byte-requires c κs = search needs
-
-form-of-requires : tie.Need-form-of-requires
-form-of-requires c κs = search needs
-
-enum-told : tie.Need-enum-told
-enum-told c = search needs
-
-add-t14 : tie.Need-add-t14
-add-t14 c = search needs
-
-enum-told-2 : tie.Need-enum-told-2
-enum-told-2 c = search needs
-
 with-index-requires : tie.Need-with-index-requires
 with-index-requires c κs = begun (c .before .before .before .before .before .if1 .left) (c .before .before .before .wide-byte .ensures) (c .before .before .form-of .ensures) (c .enum-told2 .given .1)
-
-enum-told-3 : tie.Need-enum-told-3
-enum-told-3 c = search needs
 
 with-argument-requires : tie.Need-with-argument-requires
 with-argument-requires c κs = (begun (c .before .before .before .before .before .before .if1 .left) (c .before .before .before .before .wide-byte .ensures) (c .before .before .before .form-of .ensures) (c .before .enum-told3 .given .1), c .before .before .before .before .before .before .before .before .before .pre)
 
-enum-told-4 : tie.Need-enum-told-4
-enum-told-4 c = search needs
-
 with-region-requires : tie.Need-with-region-requires
 with-region-requires c κs = begun (c .before .before .before .before .before .if1 .left) (c .before .before .before .wide-byte .ensures) (c .before .before .form-of .ensures) (c .enum-told4 .given .1)
-
-enum-told-5 : tie.Need-enum-told-5
-enum-told-5 c = search needs
 
 returns-2 : tie.Need-returns-2
 returns-2 c = opens-plain (c .before .before .before .before .before .before .before .before .pre .formed) 0 (begun (c .before .before .before .before .before .if1 .left) (c .before .before .before .wide-byte .ensures) (c .before .before .form-of .ensures) (c .enum-told .given .1))
 
 returns-3 : tie.Need-returns-3
 returns-3 c = c .with-index .ensures _ (c .before .before .before .before .before .before .before .before .before .pre .formed) _
-
-same-length : tie.Need-same-length
-same-length c = search needs
 
 returns-4 : tie.Need-returns-4
 returns-4 c = c .before .before .with-argument .ensures
@@ -65,21 +35,21 @@ read-rule-spec =
     tie.close
     (tie.spec
     returns
-    shared-slice-read-wide-byte
-    wide-byte-requires
-    form-of-requires
-    enum-told
-    add-t14
-    enum-told-2
+    (λ c. search needs)
+    (λ c κs. search needs)
+    (λ c κs. search needs)
+    (λ c. search needs)
+    (λ c. search needs)
+    (λ c. search needs)
     with-index-requires
-    enum-told-3
+    (λ c. search needs)
     with-argument-requires
-    enum-told-4
+    (λ c. search needs)
     with-region-requires
-    enum-told-5
+    (λ c. search needs)
     returns-2
     returns-3
-    same-length
+    (λ c. search needs)
     returns-4
     returns-5
     returns-6)

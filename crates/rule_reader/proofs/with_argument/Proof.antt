@@ -5,29 +5,11 @@ use borrow.Author.Needs.{needs}
 use Rattle.rule_reader.proofs.with_argument.Statement.{statement}
 use Rattle.rule_reader.proofs.with_argument.Tie as tie
 
-add-expression : tie.Need-add-expression
-add-expression c = search needs
-
 expression-requires : tie.Need-expression-requires
 expression-requires c κs = ((omega arith, c .before .before .before .pre .1 .most), opening-ready (c .before .before .before .pre .1))
 
-enum-known-answer : tie.Need-enum-known-answer
-enum-known-answer c = search needs
-
-refusal-requires : tie.Need-refusal-requires
-refusal-requires c κs = search needs
-
-same-length : tie.Need-same-length
-same-length c = search needs
-
 returns : tie.Need-returns
 returns c = opens-no-argument (c .before .before .before .before .before .before .before .before .pre .0) (c .before .before .before .before .before .before .before .before .pre .1) (c .before .before .before .before .expression .result) (c .before .match .keys2) (c .before .before .before .before .expression .ensures) (c .refusal .ensures)
-
-wide-requires : tie.Need-wide-requires
-wide-requires c κs = search needs
-
-same-length-2 : tie.Need-same-length-2
-same-length-2 c = search needs
 
 returns-2 : tie.Need-returns-2
 returns-2 c = rw (c .wide .ensures) (opens-argument (c .before .before .before .before .before .before .before .before .before .before .pre .0) (c .before .before .before .before .before .before .before .before .before .before .pre .1) (told-expression (c .before .before .before .before .before .before .expression .ensures) (c .before .before .answer .given .1)))
@@ -36,12 +18,12 @@ pub with-argument-spec : {M : Type 1} → statement M
 with-argument-spec =
     tie.close
     (tie.spec
-    add-expression
+    (λ c. search needs)
     expression-requires
-    enum-known-answer
-    refusal-requires
-    same-length
+    (λ c. search needs)
+    (λ c κs. search needs)
+    (λ c. search needs)
     returns
-    wide-requires
-    same-length-2
+    (λ c κs. search needs)
+    (λ c. search needs)
     returns-2)

@@ -17,9 +17,6 @@ abbrev μ-loop : tie.MeasureT-loop
 loop-holds : tie.Need-loop-holds Inv-loop μ-loop
 loop-holds c = runs.begin _ _ _ _ _ _ _ (c .before .before .good .0 .1 .0 .1) (c .before .before .pre)
 
-stopped-requires : tie.Need-stopped-requires Inv-loop μ-loop
-stopped-requires c κs = search needs
-
 same-length : tie.Need-same-length Inv-loop μ-loop
 same-length c = c .before .before .loop .inv .as-many
 
@@ -28,9 +25,6 @@ same-length-2 c = c .before .before .loop .inv .as-long
 
 returns : tie.Need-returns Inv-loop μ-loop
 returns c = rw (c .stopped .ensures) (runs.spent _ _ _ _ _ _ _ _ _ _ _ (c .before .before .loop .inv) (c .before .if1 .taken))
-
-stopped-requires-2 : tie.Need-stopped-requires-2 Inv-loop μ-loop
-stopped-requires-2 c κs = search needs
 
 same-length-3 : tie.Need-same-length-3 Inv-loop μ-loop
 same-length-3 c = c .before .before .before .loop .inv .as-many
@@ -41,35 +35,11 @@ same-length-4 c = c .before .before .before .loop .inv .as-long
 returns-2 : tie.Need-returns-2 Inv-loop μ-loop
 returns-2 c = rw (c .stopped2 .ensures) (runs.past _ _ _ _ _ _ _ _ _ _ _ (c .before .before .before .loop .inv) (c .before .before .if1 .left) (c .before .if2 .taken))
 
-mul-line : tie.Need-mul-line Inv-loop μ-loop
-mul-line c = search needs
-
-array-copy-out-line : tie.Need-array-copy-out-line Inv-loop μ-loop
-array-copy-out-line c = search needs
-
 execute-requires : tie.Need-execute-requires Inv-loop μ-loop
 execute-requires c κs = runs.ready _ _ _ _ _ _ _ _ _ _ _ (c .before .before .before .before .before .loop .inv) (c .before .before .before .before .if1 .left) (c .before .before .before .if2 .left) _
 
-enum-known-progress : tie.Need-enum-known-progress Inv-loop μ-loop
-enum-known-progress c = search needs
-
-add-steps : tie.Need-add-steps Inv-loop μ-loop
-add-steps c = search needs
-
-loop-less : tie.Need-loop-less Inv-loop μ-loop
-loop-less c = search needs
-
 loop-again : tie.Need-loop-again Inv-loop μ-loop
 loop-again c = runs.further _ _ _ _ _ _ _ _ _ _ _ (c .before .before .before .before .before .before .before .before .before .before .before .before .before .loop .inv) (c .before .before .before .before .before .before .before .before .before .before .before .before .if1 .left) (c .before .before .before .before .before .before .before .before .before .before .before .if2 .left) _ _ _ _ (c .before .before .before .before .before .before .before .execute .ensures) _ (c .before .progress .given .1) (c .before .before .before .before .before .before .before .execute .kept .1 .1 .1 .1 .0) (c .before .before .before .before .before .before .before .execute .kept .1 .1 .1 .1 .1 .0)
-
-enum-told : tie.Need-enum-told Inv-loop μ-loop
-enum-told c = search needs
-
-add-stopped : tie.Need-add-stopped Inv-loop μ-loop
-add-stopped c = search needs
-
-stopped-requires-3 : tie.Need-stopped-requires-3 Inv-loop μ-loop
-stopped-requires-3 c κs = search needs
 
 same-length-5 : tie.Need-same-length-5 Inv-loop μ-loop
 same-length-5 c = c .before .before .before .before .before .before .before .execute .kept .1 .1 .1 .1 .0 ∙ c .before .before .before .before .before .before .before .before .before .before .before .before .before .loop .inv .as-many
@@ -79,12 +49,6 @@ same-length-6 c = c .before .before .before .before .before .before .before .exe
 
 returns-3 : tie.Need-returns-3 Inv-loop μ-loop
 returns-3 c = rw (c .stopped3 .ensures) (runs.returned _ _ _ _ _ _ _ _ _ _ _ (c .before .before .before .before .before .before .before .before .before .before .before .before .before .loop .inv) (c .before .before .before .before .before .before .before .before .before .before .before .before .if1 .left) (c .before .before .before .before .before .before .before .before .before .before .before .if2 .left) _ _ _ _ (c .before .before .before .before .before .before .before .execute .ensures) (c .before .enum-told .given .1))
-
-enum-told-2 : tie.Need-enum-told-2 Inv-loop μ-loop
-enum-told-2 c = search needs
-
-stopped-requires-4 : tie.Need-stopped-requires-4 Inv-loop μ-loop
-stopped-requires-4 c κs = search needs
 
 same-length-7 : tie.Need-same-length-7 Inv-loop μ-loop
 same-length-7 c = c .before .before .before .before .before .before .before .execute .kept .1 .1 .1 .1 .0 ∙ c .before .before .before .before .before .before .before .before .before .before .before .before .before .loop .inv .as-many
@@ -102,29 +66,29 @@ run-code-spec =
     Inv-loop
     μ-loop
     loop-holds
-    stopped-requires
+    (λ c κs. search needs)
     same-length
     same-length-2
     returns
-    stopped-requires-2
+    (λ c κs. search needs)
     same-length-3
     same-length-4
     returns-2
-    mul-line
-    array-copy-out-line
+    (λ c. search needs)
+    (λ c. search needs)
     execute-requires
-    enum-known-progress
-    add-steps
-    loop-less
+    (λ c. search needs)
+    (λ c. search needs)
+    (λ c. search needs)
     loop-again
-    enum-told
-    add-stopped
-    stopped-requires-3
+    (λ c. search needs)
+    (λ c. search needs)
+    (λ c κs. search needs)
     same-length-5
     same-length-6
     returns-3
-    enum-told-2
-    stopped-requires-4
+    (λ c. search needs)
+    (λ c κs. search needs)
     same-length-7
     same-length-8
     returns-4)

@@ -51,9 +51,6 @@ module _ (t : ℕ) where
   returns-2 : lts.Need-returns-2 (R t) (given t) it.Post
   returns-2 c = read-spent (c .before .before .before .before .pre .1 .1) (c .before .if1 .left) (c .if2 .taken)
 
-  shared-slice-read-tag : lts.Need-shared-slice-read-tag (R t) (given t) it.Post
-  shared-slice-read-tag c = search needs
-
   read-constant-requires : lts.Need-read-constant-requires (R t) (given t) it.Post
   read-constant-requires c κs = ((c .before .before .before .before .if1 .left, c .before .before .before .before .before .before .before .pre .1 .0 .0, omega (arith, c .before .before .before .if2 .left)), c .before .before .before .before .before .before .before .pre .1 .1)
 
@@ -63,20 +60,11 @@ module _ (t : ℕ) where
   read-pair-requires : lts.Need-read-pair-requires (R t) (given t) it.Post
   read-pair-requires c κs = (omega (arith, c .before .before .before .before .before .before .before .before .pre .0), (c .before .before .before .before .before .before .before .before .pre .1 .0, (c .before .before .before .before .before .before .before .before .pre .1 .1, ((c .before .before .before .before .before .if1 .left, omega (arith, c .before .before .before .before .if2 .left)), (refl, omega (arith, c .before .before .match .rest .0 .1, c .before .before .match .rest .1), c .before .if3 .taken)))))
 
-  same-length : lts.Need-same-length (R t) (given t) it.Post
-  same-length c = search needs
-
   returns-3 : lts.Need-returns-3 (R t) (given t) it.Post
   returns-3 c = read-leaf (c .before .before .before .before .before .before .before .before .before .before .pre .1 .1) (c .before .before .before .before .before .before .before .if1 .left) (omega (arith, c .before .before .before .before .before .before .if2 .left)) 0 (c .before .before .before .before .match .keys1) refl (c .before .before .read-constant .ensures)
 
-  same-length-2 : lts.Need-same-length-2 (R t) (given t) it.Post
-  same-length-2 c = search needs
-
   returns-4 : lts.Need-returns-4 (R t) (given t) it.Post
   returns-4 c = read-leaf (c .before .before .before .before .before .before .before .before .before .before .pre .1 .1) (c .before .before .before .before .before .before .before .if1 .left) (omega (arith, c .before .before .before .before .before .before .if2 .left)) 1 (c .before .before .before .before .match .keys2) refl (c .before .before .read-variable .ensures)
-
-  same-length-3 : lts.Need-same-length-3 (R t) (given t) it.Post
-  same-length-3 c = search needs
 
   returns-5 : lts.Need-returns-5 (R t) (given t) it.Post
   returns-5 c = c .before .before .read-pair .ensures
@@ -155,4 +143,4 @@ module _ (t : ℕ) where
   pair-returns-5 c = pair-read _ (c .before .before .before .before .before .before .before .before .before .before .before .before .before .before .before .before .before .before .before .before .pre .1) (c .before .before .before .before .before .before .before .before .before .before .before .before .before .before .before .before .read .ensures) (c .before .before .before .before .before .before .before .before .before .before .before .before .a .given .1) (c .before .before .before .before .before .before .before .before .before .before .before .before .before .before .before .before .read .kept .1 .0) (c .before .before .before .before .before .before .before .before .before .read2 .ensures) (c .before .before .before .before .before .b .given .1) (c .before .before .put-pair .ensures)
 
 pub +read+read-pair-spec : {M : Type 1} → statement M
-+read+read-pair-spec = close μ pair-μ (λ t. lts.spec (R t) (given t) it.Post (returns t) (returns-2 t) (shared-slice-read-tag t) (read-constant-requires t) (read-variable-requires t) (read-pair-requires t) (same-length t) (returns-3 t) (same-length-2 t) (returns-4 t) (same-length-3 t) (returns-5 t) (returns-6 t)) (λ t. pair-lts.spec (pair-R t) (pair-given t) pair-it.Post (pair-add-start t) (pair-sub-read t) (pair-read-requires t) (pair-enum-told t) (pair-enum-known-p t) (pair-enum-known-a t) (pair-read-requires-2 t) (pair-enum-told-2 t) (pair-enum-known-p-2 t) (pair-enum-known-b t) (pair-put-pair-requires t) (pair-cast-t33 t) (pair-add-t34 t) (pair-same-length t) (pair-returns t) (pair-same-length-2 t) (pair-returns-2 t) (pair-same-length-3 t) (pair-returns-3 t) (pair-same-length-4 t) (pair-returns-4 t) (pair-same-length-5 t) (pair-returns-5 t))
++read+read-pair-spec = close μ pair-μ (λ t. lts.spec (R t) (given t) it.Post (returns t) (returns-2 t) (λ c. search needs) (read-constant-requires t) (read-variable-requires t) (read-pair-requires t) (λ c. search needs) (returns-3 t) (λ c. search needs) (returns-4 t) (λ c. search needs) (returns-5 t) (returns-6 t)) (λ t. pair-lts.spec (pair-R t) (pair-given t) pair-it.Post (pair-add-start t) (pair-sub-read t) (pair-read-requires t) (pair-enum-told t) (pair-enum-known-p t) (pair-enum-known-a t) (pair-read-requires-2 t) (pair-enum-told-2 t) (pair-enum-known-p-2 t) (pair-enum-known-b t) (pair-put-pair-requires t) (pair-cast-t33 t) (pair-add-t34 t) (pair-same-length t) (pair-returns t) (pair-same-length-2 t) (pair-returns-2 t) (pair-same-length-3 t) (pair-returns-3 t) (pair-same-length-4 t) (pair-returns-4 t) (pair-same-length-5 t) (pair-returns-5 t))

@@ -3,9 +3,6 @@ use borrow.Author.Needs.{needs}
 use Rattle.term_reader.proofs.unread.Statement.{statement}
 use Rattle.term_reader.proofs.unread.Tie as tie
 
-enum-known-answer : tie.Need-enum-known-answer
-enum-known-answer c = search needs
-
 returns : tie.Need-returns
 returns c = unread-fault (c .before .answer .given .1)
 
@@ -13,4 +10,4 @@ returns-2 : tie.Need-returns-2
 returns-2 c = unread-other (c .before .args .answer) (c .match .keys2)
 
 pub unread-spec : {M : Type 1} → statement M
-unread-spec = tie.close (tie.spec enum-known-answer returns returns-2)
+unread-spec = tie.close (tie.spec (λ c. search needs) returns returns-2)

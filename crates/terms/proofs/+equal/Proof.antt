@@ -29,53 +29,17 @@ abbrev R : ℕ → lts.Claims
 R t = (twins-reads.Asked, twins-reads.Learnt, alike-reads.Asked, alike-reads.Learnt, view-reads.Asked, view-reads.Learnt, below t, it.Post)
 
 module _ (t : ℕ) where
-  twins-requires : lts.Need-twins-requires (R t) (given t) it.Post
-  twins-requires c κs = search needs
-
   returns : lts.Need-returns (R t) (given t) it.Post
   returns c = same-twin (c .before .before .before .pre .1 .0) (c .before .before .before .pre .1 .1) (eqb-true _ _ (sym (c .before .twins .ensures) ∙ c .if1 .taken))
 
-  alike-requires : lts.Need-alike-requires (R t) (given t) it.Post
-  alike-requires c κs = search needs
-
   returns-2 : lts.Need-returns-2 (R t) (given t) it.Post
   returns-2 c = same-facts (c .before .before .before .before .before .pre .1 .0) (c .before .before .before .before .before .pre .1 .1) (eqb-false _ _ (sym (c .before .alike .ensures) ∙ not-true _ (c .if2 .taken)))
-
-  view-requires : lts.Need-view-requires (R t) (given t) it.Post
-  view-requires c κs = search needs
-
-  view-requires-2 : lts.Need-view-requires-2 (R t) (given t) it.Post
-  view-requires-2 c κs = search needs
-
-  enum-known-m : lts.Need-enum-known-m (R t) (given t) it.Post
-  enum-known-m c = search needs
-
-  enum-known-other : lts.Need-enum-known-other (R t) (given t) it.Post
-  enum-known-other c = search needs
-
-  enum-known-m-2 : lts.Need-enum-known-m-2 (R t) (given t) it.Post
-  enum-known-m-2 c = search needs
-
-  enum-known-other-2 : lts.Need-enum-known-other-2 (R t) (given t) it.Post
-  enum-known-other-2 c = search needs
-
-  enum-known-a : lts.Need-enum-known-a (R t) (given t) it.Post
-  enum-known-a c = search needs
-
-  enum-known-other-3 : lts.Need-enum-known-other-3 (R t) (given t) it.Post
-  enum-known-other-3 c = search needs
 
   equal-requires : lts.Need-equal-requires (R t) (given t) it.Post
   equal-requires c κs = let p = first (c .before .before .before .before .before .before .before .before .before .before .before .before .before .pre .0) (c .before .before .before .before .before .before .before .before .before .before .before .before .before .pre .1 .0) (node-order (c .before .before .before .before .before .before .before .before .before .before .before .before .before .pre .1 .0) (c .before .before .before .before .before .before .view2 .ensures) (c .before .before .before .before .a .given .1)) in (p .0, (p .1, part (c .before .before .before .before .before .before .before .before .before .before .before .before .before .pre .1 .1) (node-order (c .before .before .before .before .before .before .before .before .before .before .before .before .before .pre .1 .1) (c .before .before .before .before .before .before .before .view .ensures) (c .before .other3 .given .1) .0)))
 
   equal-requires-2 : lts.Need-equal-requires-2 (R t) (given t) it.Post
   equal-requires-2 c κs = let p = second (c .before .before .before .before .before .before .before .before .before .before .before .before .before .before .before .pre .0) (c .before .before .before .before .before .before .before .before .before .before .before .before .before .before .before .pre .1 .0) (node-order (c .before .before .before .before .before .before .before .before .before .before .before .before .before .before .before .pre .1 .0) (c .before .before .before .before .before .before .before .before .view2 .ensures) (c .before .before .before .before .before .before .a .given .1)) in (p .0, (p .1, part (c .before .before .before .before .before .before .before .before .before .before .before .before .before .before .before .pre .1 .1) (node-order (c .before .before .before .before .before .before .before .before .before .before .before .before .before .before .before .pre .1 .1) (c .before .before .before .before .before .before .before .before .before .view .ensures) (c .before .before .before .other3 .given .1) .1)))
-
-  enum-known-a-2 : lts.Need-enum-known-a-2 (R t) (given t) it.Post
-  enum-known-a-2 c = search needs
-
-  enum-known-other-4 : lts.Need-enum-known-other-4 (R t) (given t) it.Post
-  enum-known-other-4 c = search needs
 
   equal-requires-3 : lts.Need-equal-requires-3 (R t) (given t) it.Post
   equal-requires-3 c κs = let p = first (c .before .before .before .before .before .before .before .before .before .before .before .before .before .pre .0) (c .before .before .before .before .before .before .before .before .before .before .before .before .before .pre .1 .0) (node-order (c .before .before .before .before .before .before .before .before .before .before .before .before .before .pre .1 .0) (c .before .before .before .before .before .before .view2 .ensures) (c .before .before .before .before .a2 .given .1)) in (p .0, (p .1, part (c .before .before .before .before .before .before .before .before .before .before .before .before .before .pre .1 .1) (node-order (c .before .before .before .before .before .before .before .before .before .before .before .before .before .pre .1 .1) (c .before .before .before .before .before .before .before .view .ensures) (c .before .other4 .given .1) .0)))
@@ -114,4 +78,4 @@ module _ (t : ℕ) where
   returns-12 c = same-apart (c .before .before .before .before .before .before .before .before .before .before .before .pre .1 .0) (c .before .before .before .before .before .before .before .before .before .before .before .pre .1 .1) (c .before .before .before .before .view2 .ensures) (c .before .before .before .before .before .view .ensures) (c .before .before .before .match .keys4) (c .match5 .keys2) (omega arith)
 
 pub +equal-spec : {M : Type 1} → statement M
-+equal-spec = close μ (λ t. lts.spec (R t) (given t) it.Post (twins-requires t) (returns t) (alike-requires t) (returns-2 t) (view-requires t) (view-requires-2 t) (enum-known-m t) (enum-known-other t) (enum-known-m-2 t) (enum-known-other-2 t) (enum-known-a t) (enum-known-other-3 t) (equal-requires t) (equal-requires-2 t) (enum-known-a-2 t) (enum-known-other-4 t) (equal-requires-3 t) (equal-requires-4 t) (returns-3 t) (returns-4 t) (returns-5 t) (returns-6 t) (returns-7 t) (returns-8 t) (returns-9 t) (returns-10 t) (returns-11 t) (returns-12 t))
++equal-spec = close μ (λ t. lts.spec (R t) (given t) it.Post (λ c κs. search needs) (returns t) (λ c κs. search needs) (returns-2 t) (λ c κs. search needs) (λ c κs. search needs) (λ c. search needs) (λ c. search needs) (λ c. search needs) (λ c. search needs) (λ c. search needs) (λ c. search needs) (equal-requires t) (equal-requires-2 t) (λ c. search needs) (λ c. search needs) (equal-requires-3 t) (equal-requires-4 t) (returns-3 t) (returns-4 t) (returns-5 t) (returns-6 t) (returns-7 t) (returns-8 t) (returns-9 t) (returns-10 t) (returns-11 t) (returns-12 t))

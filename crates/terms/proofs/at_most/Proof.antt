@@ -4,14 +4,8 @@ use borrow.Author.Needs.{needs}
 use Rattle.terms.proofs.at_most.Statement.{statement}
 use Rattle.terms.proofs.at_most.Tie as tie
 
-marks-requires : tie.Need-marks-requires
-marks-requires c κs = search needs
-
-size-requires : tie.Need-size-requires
-size-requires c κs = search needs
-
 returns : tie.Need-returns
 returns c = rw (c .size .ensures .0, c .before .marks .ensures) (size-most _ _ (beside (c .before .before .before .pre .0) .facts) _ (c .before .before .before .pre .1))
 
 pub at-most-spec : {M : Type 1} → statement M
-at-most-spec = tie.close (tie.spec marks-requires size-requires returns)
+at-most-spec = tie.close (tie.spec (λ c κs. search needs) (λ c κs. search needs) returns)

@@ -4,35 +4,11 @@ use borrow.Author.Needs.{needs}
 use Rattle.terms.proofs.computed.Statement.{statement}
 use Rattle.terms.proofs.computed.Tie as tie
 
-marks-requires : tie.Need-marks-requires
-marks-requires c κs = search needs
-
-is-closed-requires : tie.Need-is-closed-requires
-is-closed-requires c κs = search needs
-
-marks-requires-2 : tie.Need-marks-requires-2
-marks-requires-2 c κs = search needs
-
-is-closed-requires-2 : tie.Need-is-closed-requires-2
-is-closed-requires-2 c κs = search needs
-
 mul-if1 : tie.Need-mul-if1
 mul-if1 c = omega (arith, bits-product _ _ (c .before .before .is-closed .ensures .1) (c .is-closed2 .ensures .1))
 
 returns : tie.Need-returns
 returns c = computed-open (c .before .before .before .before .before .before .pre .0) (c .before .before .before .before .before .before .pre .1 .0) (c .before .before .before .before .before .before .args .tag) (rw (← c .before .before .before .before .marks .ensures, ← c .before .before .marks2 .ensures, ← c .before .before .before .is-closed .ensures .0, ← c .before .is-closed2 .ensures .0) (c .if1 .taken))
-
-value-requires : tie.Need-value-requires
-value-requires c κs = search needs
-
-value-requires-2 : tie.Need-value-requires-2
-value-requires-2 c κs = search needs
-
-add-requires : tie.Need-add-requires
-add-requires c κs = search needs
-
-sub-requires : tie.Need-sub-requires
-sub-requires c κs = search needs
 
 returns-2 : tie.Need-returns-2
 returns-2 c = rw (c .add .ensures, c .before .before .before .value .ensures, c .before .before .value2 .ensures) (computed-sum (c .before .before .before .before .before .before .before .before .before .before .pre .0) (c .before .before .before .before .before .before .before .before .before .before .pre .1 .0) (λ e. c .before .before .before .before .if1 .left (rw (c .before .before .before .before .before .before .before .is-closed .ensures .0, c .before .before .before .before .before .is-closed2 .ensures .0, c .before .before .before .before .before .before .before .before .marks .ensures, c .before .before .before .before .before .before .marks2 .ensures) e)) (c .before .if2 .taken))
@@ -44,15 +20,15 @@ pub computed-spec : {M : Type 1} → statement M
 computed-spec =
     tie.close
     (tie.spec
-    marks-requires
-    is-closed-requires
-    marks-requires-2
-    is-closed-requires-2
+    (λ c κs. search needs)
+    (λ c κs. search needs)
+    (λ c κs. search needs)
+    (λ c κs. search needs)
     mul-if1
     returns
-    value-requires
-    value-requires-2
-    add-requires
-    sub-requires
+    (λ c κs. search needs)
+    (λ c κs. search needs)
+    (λ c κs. search needs)
+    (λ c κs. search needs)
     returns-2
     returns-3)

@@ -6,15 +6,6 @@ use borrow.Author.Needs.{needs}
 use Rattle.terms.proofs.evaluate.Statement.{statement}
 use Rattle.terms.proofs.evaluate.Tie as tie
 
-marks-requires : tie.Need-marks-requires
-marks-requires c κs = search needs
-
-is-closed-requires : tie.Need-is-closed-requires
-is-closed-requires c κs = search needs
-
-value-requires : tie.Need-value-requires
-value-requires c κs = search needs
-
 returns : tie.Need-returns
 returns c = closed-value (beside (c .before .before .before .before .before .pre)) (subst (λ m. m / 4 % 2 ≡ 1) (c .before .before .before .marks .ensures) (sym (c .before .before .is-closed .ensures .0) ∙ c .before .if1 .taken)) (c .value .ensures)
 
@@ -23,4 +14,4 @@ returns-2 c = open-value (beside (c .before .before .before .before .pre)) (λ e
 
 pub evaluate-spec : {M : Type 1} → statement M
 evaluate-spec =
-    tie.close (tie.spec marks-requires is-closed-requires value-requires returns returns-2)
+    tie.close (tie.spec (λ c κs. search needs) (λ c κs. search needs) (λ c κs. search needs) returns returns-2)

@@ -4,15 +4,6 @@ use borrow.Author.Needs.{needs}
 use Rattle.terms.proofs.put.Statement.{statement}
 use Rattle.terms.proofs.put.Tie as tie
 
-find-requires : tie.Need-find-requires
-find-requires c κs = search needs
-
-mul-store : tie.Need-mul-store
-mul-store c = search needs
-
-add-store : tie.Need-add-store
-add-store c = search needs
-
 cast-store : tie.Need-cast-store
 cast-store c = omega (arith, found-in (c .before .before .before .find .ensures), c .before .before .before .before .before .before .pre .1 .0 .fits)
 
@@ -22,12 +13,6 @@ mul-store-2 c = omega (arith, found-in (c .before .before .before .find .ensures
 add-store-2 : tie.Need-add-store-2
 add-store-2 c = omega (arith, found-in (c .before .before .before .find .ensures), c .before .before .before .before .before .before .pre .1 .0 .fits)
 
-store-requires : tie.Need-store-requires
-store-requires c κs = search needs
-
-same-length : tie.Need-same-length
-same-length c = search needs
-
 returns : tie.Need-returns
 returns c = put-node (c .before .before .before .before .before .before .before .before .before .pre .0) (c .before .before .before .before .before .before .before .before .before .pre .1 .0) (c .before .before .before .before .before .before .before .before .before .pre .1 .1 .0) (c .before .before .before .before .before .before .before .before .before .pre .1 .1 .1) (c .before .before .before .before .before .before .find .ensures) (omega arith) (c .before .before .store .ensures)
 
@@ -35,12 +20,12 @@ pub put-spec : {M : Type 1} → statement M
 put-spec =
     tie.close
     (tie.spec
-    find-requires
-    mul-store
-    add-store
+    (λ c κs. search needs)
+    (λ c. search needs)
+    (λ c. search needs)
     cast-store
     mul-store-2
     add-store-2
-    store-requires
-    same-length
+    (λ c κs. search needs)
+    (λ c. search needs)
     returns)

@@ -7,11 +7,5 @@ use Rattle.terms.proofs.put_constant.Tie as tie
 put-requires : tie.Need-put-requires
 put-requires c κs = (c .before .before .pre .0, (c .before .before .pre .1, (fits-constant _ _ (omega arith), omega arith)))
 
-same-length : tie.Need-same-length
-same-length c = search needs
-
-returns : tie.Need-returns
-returns c = search needs
-
 pub put-constant-spec : {M : Type 1} → statement M
-put-constant-spec = tie.close (tie.spec put-requires same-length returns)
+put-constant-spec = tie.close (tie.spec put-requires (λ c. search needs) (λ c. search needs))

@@ -3,20 +3,8 @@ use borrow.Author.Needs.{needs}
 use Rattle.annotations.proofs.targets.check_target.Statement.{statement}
 use Rattle.annotations.proofs.targets.check_target.Tie as tie
 
-instruction-requires : tie.Need-instruction-requires
-instruction-requires c κs = search needs
-
-enum-known-answer : tie.Need-enum-known-answer
-enum-known-answer c = search needs
-
-target-listed-requires : tie.Need-target-listed-requires
-target-listed-requires c κs = search needs
-
 returns : tie.Need-returns
 returns c = target-listed _ _ _ _ (c .before .before .before .before .before .before .before .before .pre .1 .1) _ (c .before .before .before .before .before .instruction .ensures) _ (c .before .before .before .answer .given .1) _ (c .before .target-listed .ensures) (c .if1 .taken)
-
-enum-known-answer-2 : tie.Need-enum-known-answer-2
-enum-known-answer-2 c = search needs
 
 returns-2 : tie.Need-returns-2
 returns-2 c = target-unlisted _ _ _ _ (c .before .before .before .before .before .before .before .before .pre .1 .1) _ (c .before .before .before .before .before .instruction .ensures) _ (c .before .before .before .answer .given .1) _ (c .before .target-listed .ensures) (c .if1 .left)
@@ -28,10 +16,10 @@ pub check-target-spec : {M : Type 1} → statement M
 check-target-spec =
     tie.close
     (tie.spec
-    instruction-requires
-    enum-known-answer
-    target-listed-requires
+    (λ c κs. search needs)
+    (λ c. search needs)
+    (λ c κs. search needs)
     returns
-    enum-known-answer-2
+    (λ c. search needs)
     returns-2
     returns-3)

@@ -3,26 +3,8 @@ use borrow.Author.Needs.{needs}
 use Rattle.annotations.proofs.targets.target_listed.Statement.{statement}
 use Rattle.annotations.proofs.targets.target_listed.Tie as tie
 
-target-of-requires : tie.Need-target-of-requires
-target-of-requires c κs = search needs
-
-enum-known-target : tie.Need-enum-known-target
-enum-known-target c = search needs
-
-enum-told : tie.Need-enum-told
-enum-told c = search needs
-
 returns : tie.Need-returns
 returns c = no-jump _ _ _ (c .before .before .target-of .ensures) (c .enum-told .given .1)
-
-position-requires : tie.Need-position-requires
-position-requires c κs = search needs
-
-enum-told-2 : tie.Need-enum-told-2
-enum-told-2 c = search needs
-
-enum-told-3 : tie.Need-enum-told-3
-enum-told-3 c = search needs
 
 returns-2 : tie.Need-returns-2
 returns-2 c = jump-listed _ _ _ (c .before .before .before .before .before .before .target-of .ensures) _ (c .before .before .before .before .target .given .1) _ (c .before .before .position .ensures) _ (c .enum-told2 .given .1)
@@ -34,12 +16,12 @@ pub target-listed-spec : {M : Type 1} → statement M
 target-listed-spec =
     tie.close
     (tie.spec
-    target-of-requires
-    enum-known-target
-    enum-told
+    (λ c κs. search needs)
+    (λ c. search needs)
+    (λ c. search needs)
     returns
-    position-requires
-    enum-told-2
-    enum-told-3
+    (λ c κs. search needs)
+    (λ c. search needs)
+    (λ c. search needs)
     returns-2
     returns-3)

@@ -3,15 +3,6 @@ use Rattle.claims.proofs.PartLaws.{no-access, readable-access, writable
 use Rattle.claims.proofs.parts.accessed.Statement.{statement}
 use Rattle.claims.proofs.parts.accessed.Tie as tie
 
-enum-known-claim : tie.Need-enum-known-claim
-enum-known-claim c = search needs
-
-enum-known-claim-2 : tie.Need-enum-known-claim-2
-enum-known-claim-2 c = search needs
-
-enum-known-claim-3 : tie.Need-enum-known-claim-3
-enum-known-claim-3 c = search needs
-
 returns : tie.Need-returns
 returns c = no-access (c .before .claim .given .1)
 
@@ -24,4 +15,4 @@ returns-3 c = writable-access (c .before .claim3 .given .1)
 pub accessed-spec : {M : Type 1} → statement M
 accessed-spec =
     tie.close
-    (tie.spec enum-known-claim enum-known-claim-2 enum-known-claim-3 returns returns-2 returns-3)
+    (tie.spec (λ c. search needs) (λ c. search needs) (λ c. search needs) returns returns-2 returns-3)

@@ -3,15 +3,6 @@ use Rattle.claims.proofs.PartLaws.{assumption-is, entry-left, entry-rig
 use Rattle.claims.proofs.parts.is_assumption.Statement.{statement}
 use Rattle.claims.proofs.parts.is_assumption.Tie as tie
 
-get-requires : tie.Need-get-requires
-get-requires c κs = search needs
-
-tag-requires : tie.Need-tag-requires
-tag-requires c κs = search needs
-
-tag-requires-2 : tie.Need-tag-requires-2
-tag-requires-2 c κs = search needs
-
 same-requires : tie.Need-same-requires
 same-requires c κs = (c .before .before .before .before .pre .1 .0, entry-left _ _ (c .before .before .get .ensures) (c .before .before .before .before .pre .1 .1 .1 .0))
 
@@ -24,4 +15,4 @@ returns c = assumption-is _ _ (c .before .before .before .before .get .ensures) 
 pub is-assumption-spec : {M : Type 1} → statement M
 is-assumption-spec =
     tie.close
-    (tie.spec get-requires tag-requires tag-requires-2 same-requires same-requires-2 returns)
+    (tie.spec (λ c κs. search needs) (λ c κs. search needs) (λ c κs. search needs) same-requires same-requires-2 returns)

@@ -3,21 +3,6 @@ use Rattle.claims.proofs.PartLaws.{difference-nodes, difference-none, s
 use Rattle.claims.proofs.parts.operands.Statement.{statement}
 use Rattle.claims.proofs.parts.operands.Tie as tie
 
-view-requires : tie.Need-view-requires
-view-requires c κs = search needs
-
-enum-told : tie.Need-enum-told
-enum-told c = search needs
-
-enum-known-node : tie.Need-enum-known-node
-enum-known-node c = search needs
-
-enum-told-2 : tie.Need-enum-told-2
-enum-told-2 c = search needs
-
-enum-known-node-2 : tie.Need-enum-known-node-2
-enum-known-node-2 c = search needs
-
 returns : tie.Need-returns
 returns c = sum-nodes (c .before .before .before .before .before .before .before .pre) (c .before .before .before .before .before .view .ensures) (c .before .before .before .enum-told .given .1) (c .before .node .given .1)
 
@@ -34,11 +19,11 @@ pub operands-spec : {M : Type 1} → statement M
 operands-spec =
     tie.close
     (tie.spec
-    view-requires
-    enum-told
-    enum-known-node
-    enum-told-2
-    enum-known-node-2
+    (λ c κs. search needs)
+    (λ c. search needs)
+    (λ c. search needs)
+    (λ c. search needs)
+    (λ c. search needs)
     returns
     returns-2
     returns-3

@@ -11,17 +11,11 @@ mul-wide c = omega (arith, c .before .before .before .before .before .before .be
 shared-slice-read-wide : tie.Need-shared-slice-read-wide
 shared-slice-read-wide c = omega (arith, c .before .before .before .before .before .before .before .before .pre .1 .1 .1, c .before .before .before .before .before .before .before .before .pre .0 .settled .fits .noted, c .before .before .before .before .before .before .before .before .pre .0 .settled .tabled .indexes-long)
 
-wide-requires : tie.Need-wide-requires
-wide-requires c κs = search needs
-
 mul-wide-2 : tie.Need-mul-wide-2
 mul-wide-2 c = omega (arith, c .before .before .before .before .before .before .before .before .before .pre .1 .1 .1, c .before .before .before .before .before .before .before .before .before .pre .0 .settled .fits .noted)
 
 shared-slice-read-wide-2 : tie.Need-shared-slice-read-wide-2
 shared-slice-read-wide-2 c = omega (arith, c .before .before .before .before .before .before .before .before .before .before .pre .1 .1 .1, c .before .before .before .before .before .before .before .before .before .before .pre .0 .settled .fits .noted, c .before .before .before .before .before .before .before .before .before .before .pre .0 .settled .tabled .places-long)
-
-wide-requires-2 : tie.Need-wide-requires-2
-wide-requires-2 c κs = search needs
 
 annotation-block-requires : tie.Need-annotation-block-requires
 annotation-block-requires c κs = (c .before .before .before .before .before .before .before .before .before .before .before .before .pre .1 .0, start-asks (c .before .before .before .before .before .before .before .before .before .before .before .before .pre .0) (c .before .before .before .before .before .before .before .before .before .before .before .before .pre .1 .1 .1) (c .before .wide2 .ensures))
@@ -44,10 +38,10 @@ annotation-spec =
     (tie.spec
     mul-wide
     shared-slice-read-wide
-    wide-requires
+    (λ c κs. search needs)
     mul-wide-2
     shared-slice-read-wide-2
-    wide-requires-2
+    (λ c κs. search needs)
     annotation-block-requires
     sub-walk
     walk-requires

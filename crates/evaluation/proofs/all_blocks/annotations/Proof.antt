@@ -18,23 +18,11 @@ loop-holds c = (refl, none-passed (c .before .before .before .before .before .be
 annotation-requires : tie.Need-annotation-requires Inv-loop μ-loop
 annotation-requires c κs = ((c .before .before .before .before .before .before .before .before .before .before .before .pre .0), (c .before .before .before .loop .inv .1 .workspace, (c .before .before .before .loop .inv .1 .reached, (c .before .if1 .taken))))
 
-enum-known-judged : tie.Need-enum-known-judged Inv-loop μ-loop
-enum-known-judged c = search needs
-
-enum-told : tie.Need-enum-told Inv-loop μ-loop
-enum-told c = search needs
-
 same-length : tie.Need-same-length Inv-loop μ-loop
 same-length c = (c .before .before .before .before .annotation .kept .1 .1 .1 .1 .1 .1 .0) ∙ c .before .before .before .before .before .before .before .before .loop .inv .0
 
 returns : tie.Need-returns Inv-loop μ-loop
 returns c = block-stops (c .before .before .before .before .before .before .before .before .before .before .before .before .before .before .before .before .pre .0) (c .before .before .before .before .before .before .before .before .loop .inv .1) (c .before .before .before .before .before .before .if1 .taken) (c .before .before .before .before .annotation .ensures) (c .enum-told .given .1)
-
-add-k : tie.Need-add-k Inv-loop μ-loop
-add-k c = search needs
-
-loop-less : tie.Need-loop-less Inv-loop μ-loop
-loop-less c = search needs
 
 loop-again : tie.Need-loop-again Inv-loop μ-loop
 loop-again c = ((c .before .before .before .before .before .annotation .kept .1 .1 .1 .1 .1 .1 .0) ∙ c .before .before .before .before .before .before .before .before .before .loop .inv .0, block-passes (c .before .before .before .before .before .before .before .before .before .before .before .before .before .before .before .before .before .pre .0) (c .before .before .before .before .before .before .before .before .before .loop .inv .1) (c .before .before .before .before .before .before .before .if1 .taken) (c .before .before .before .before .before .annotation .ensures) (c .before .judged .given .1) (c .before .before .before .before .before .annotation .kept .1 .1 .1 .1 .1 .1 .0))
@@ -53,12 +41,12 @@ annotations-spec =
     μ-loop
     loop-holds
     annotation-requires
-    enum-known-judged
-    enum-told
+    (λ c. search needs)
+    (λ c. search needs)
     same-length
     returns
-    add-k
-    loop-less
+    (λ c. search needs)
+    (λ c. search needs)
     loop-again
     same-length-2
     returns-2)

@@ -11,12 +11,6 @@ entry-block-requires c κs = (c .before .before .before .before .before .before 
 arrive-requires : tie.Need-arrive-requires
 arrive-requires c κs = entry-asks (c .before .before .before .before .before .before .before .before .before .before .before .before .before .before .pre .0) (omega (arith, c .before .before .before .before .before .before .before .before .before .before .before .before .before .before .pre .1 .0 .words, (c .before .before .before .before .entry-block .kept .1 .1 .1 .1 .0))) (c .before .before .before .before .entry-block .ensures) (c .before .before .before .before .before .before .before .before .before .before .before .before .before .before .pre .1 .1)
 
-enum-known-arrived : tie.Need-enum-known-arrived
-enum-known-arrived c = search needs
-
-enum-told : tie.Need-enum-told
-enum-told c = search needs
-
 walk-requires : tie.Need-walk-requires
 walk-requires c κs = ((c .before .before .before .before .before .before .before .before .before .before .before .before .before .before .before .before .before .before .before .before .pre .0), entry-walk-asks (c .before .before .before .before .before .before .before .before .before .before .before .before .before .before .before .before .before .before .before .before .pre .0) (omega (arith, c .before .before .before .before .before .before .before .before .before .before .before .before .before .before .before .before .before .before .before .before .pre .1 .0 .words, (c .before .before .before .before .before .before .before .before .before .before .entry-block .kept .1 .1 .1 .1 .0))) (c .before .before .before .before .before .before .before .before .before .before .entry-block .ensures) (c .before .before .before .before .before .arrive .ensures) (c .before .before .before .before .before .arrive .kept .1 .1 .1 .1 .1 .0) (c .before .before .before .before .before .before .before .before .before .before .before .before .before .before .before .before .before .before .before .before .pre .1 .1))
 
@@ -38,8 +32,8 @@ entry-spec =
     (tie.spec
     entry-block-requires
     arrive-requires
-    enum-known-arrived
-    enum-told
+    (λ c. search needs)
+    (λ c. search needs)
     walk-requires
     same-length
     returns

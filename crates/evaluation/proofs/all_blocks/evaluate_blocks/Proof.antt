@@ -3,26 +3,11 @@ use Rattle.evaluation.proofs.BlockLaws.{entry-stops, entry-next, entry-
 use Rattle.evaluation.proofs.all_blocks.evaluate_blocks.Statement.{statement}
 use Rattle.evaluation.proofs.all_blocks.evaluate_blocks.Tie as tie
 
-entry-requires : tie.Need-entry-requires
-entry-requires c κs = search needs
-
-enum-known-first : tie.Need-enum-known-first
-enum-known-first c = search needs
-
-enum-told : tie.Need-enum-told
-enum-told c = search needs
-
-same-length : tie.Need-same-length
-same-length c = search needs
-
 returns : tie.Need-returns
 returns c = entry-stops (c .before .before .before .before .entry .ensures) (c .enum-told .given .1)
 
 annotations-requires : tie.Need-annotations-requires
 annotations-requires c κs = (c .before .before .before .before .before .before .before .before .before .before .before .before .before .before .pre .0, entry-next (c .before .before .before .before .before .before .entry .ensures) (c .before .before .first .given .1) (c .before .before .before .before .before .before .before .before .before .before .before .before .before .before .pre .1 .0) (c .before .before .before .before .before .before .entry .kept .1 .1 .1 .1 .1 .1 .0))
-
-same-length-2 : tie.Need-same-length-2
-same-length-2 c = search needs
 
 returns-2 : tie.Need-returns-2
 returns-2 c = entry-then (c .before .before .before .before .before .before .before .before .before .entry .ensures) (c .before .before .before .before .before .first .given .1) (c .before .before .annotations .ensures)
@@ -31,11 +16,11 @@ pub evaluate-blocks-spec : {M : Type 1} → statement M
 evaluate-blocks-spec =
     tie.close
     (tie.spec
-    entry-requires
-    enum-known-first
-    enum-told
-    same-length
+    (λ c κs. search needs)
+    (λ c. search needs)
+    (λ c. search needs)
+    (λ c. search needs)
     returns
     annotations-requires
-    same-length-2
+    (λ c. search needs)
     returns-2)

@@ -36,29 +36,11 @@ module _ (t : ℕ) where
   advance-requires : lts.Need-advance-requires (R t) (given t) it.Post
   advance-requires c κs = (c .before .before .before .before .before .before .before .before .before .before .pre .1 .0, (one-room _ (omega (arith, c .before .before .if1 .left)) (c .before .before .before .before .before .before .before .before .before .before .pre .1 .1 .0), ((c .before .before .before .before .before .before .before .before .before .before .pre .1 .1 .1 .0), ((c .before .before .before .before .before .before .before .before .before .before .pre .1 .1 .1 .1 .0), c .before .fetch .ensures .formed))))
 
-  enum-known-answer : lts.Need-enum-known-answer (R t) (given t) it.Post
-  enum-known-answer c = search needs
-
   arrive-requires : lts.Need-arrive-requires (R t) (given t) it.Post
   arrive-requires c κs = after-asks (c .before .before .before .before .before .before .before .before .before .before .before .before .before .before .before .before .before .before .pre .1 .0) _ (c .before .before .before .before .before .before .before .before .before .before .before .before .before .before .before .before .before .before .pre .1 .1 .0) (c .before .before .before .before .before .before .before .before .before .before .before .before .before .before .before .before .before .before .pre .1 .1 .1 .0) (omega (arith, c .before .before .before .before .before .before .before .before .before .before .if1 .left)) (c .before .before .before .before .before .before .before .before .before .fetch .ensures) (c .before .before .before .before .before .before .before .advance .ensures) (c .before .before .answer .given .1) (c .before .before .before .before .before .before .before .advance .kept .1 .1 .1 .1 .1 .1 .0)
 
-  enum-known-arrived : lts.Need-enum-known-arrived (R t) (given t) it.Post
-  enum-known-arrived c = search needs
-
-  enum-told : lts.Need-enum-told (R t) (given t) it.Post
-  enum-told c = search needs
-
-  sub-walk : lts.Need-sub-walk (R t) (given t) it.Post
-  sub-walk c = search needs
-
   walk-requires : lts.Need-walk-requires (R t) (given t) it.Post
   walk-requires c κs = (omega (arith, c .before .before .before .before .before .before .before .before .before .before .before .before .before .before .before .before .before .before .before .before .before .before .before .before .pre .0, c .before .before .before .before .before .before .before .before .before .before .before .before .before .before .before .before .if1 .left), (c .before .before .before .before .before .before .before .before .before .before .before .before .before .before .before .before .before .before .before .before .before .before .before .before .pre .1 .0, walk-asks (c .before .before .before .before .before .before .before .before .before .before .before .before .before .before .before .before .before .before .before .before .before .before .before .before .pre .1 .0) _ (c .before .before .before .before .before .before .before .before .before .before .before .before .before .before .before .before .before .before .before .before .before .before .before .before .pre .1 .1 .0) (c .before .before .before .before .before .before .before .before .before .before .before .before .before .before .before .before .before .before .before .before .before .before .before .before .pre .1 .1 .1 .0) (omega (arith, c .before .before .before .before .before .before .before .before .before .before .before .before .before .before .before .before .if1 .left)) (c .before .before .before .before .before .before .before .before .before .before .before .before .before .before .before .fetch .ensures) (c .before .before .before .before .before .before .before .before .before .before .before .before .before .advance .ensures) (c .before .before .before .before .before .before .before .before .answer .given .1) (c .before .before .before .before .before .before .before .before .before .before .before .before .before .advance .kept .1 .1 .1 .1 .1 .1 .0) (c .before .before .before .before .before .arrive .ensures) (c .before .before .before .before .before .arrive .kept .1 .1 .1 .1 .1 .0) (c .before .before .before .before .before .before .before .before .before .before .before .before .before .before .before .before .before .before .before .before .before .before .before .before .pre .1 .1 .1 .1 .1)))
-
-  enum-known-answer-2 : lts.Need-enum-known-answer-2 (R t) (given t) it.Post
-  enum-known-answer-2 c = search needs
-
-  enum-known-answer-3 : lts.Need-enum-known-answer-3 (R t) (given t) it.Post
-  enum-known-answer-3 c = search needs
 
   same-length : lts.Need-same-length (R t) (given t) it.Post
   same-length c = (c .before .before .before .before .before .arrive .kept .1 .1 .1 .1 .1 .0) ∙ (c .before .before .before .before .before .before .before .before .before .before .before .before .before .advance .kept .1 .1 .1 .1 .1 .1 .0)
@@ -72,17 +54,11 @@ module _ (t : ℕ) where
   returns-3 : lts.Need-returns-3 (R t) (given t) it.Post
   returns-3 c = walk-goes (c .before .before .before .before .before .before .before .before .before .before .before .before .before .before .before .before .before .before .before .before .before .before .before .before .before .before .before .pre .1 .0) _ (c .before .before .before .before .before .before .before .before .before .before .before .before .before .before .before .before .before .before .before .before .before .before .before .before .before .before .before .pre .1 .1 .0) (c .before .before .before .before .before .before .before .before .before .before .before .before .before .before .before .before .before .before .before .before .before .before .before .before .before .before .before .pre .1 .1 .1 .0) (omega (arith, c .before .before .before .before .before .before .before .before .before .before .before .before .before .before .before .before .before .before .before .if1 .left)) (c .before .before .before .before .before .before .before .before .before .before .before .before .before .before .before .before .before .before .fetch .ensures) (c .before .before .before .before .before .before .before .before .before .before .before .before .before .before .before .before .advance .ensures) (c .before .before .before .before .before .before .before .before .before .before .before .answer .given .1) (c .before .before .before .before .before .before .before .before .before .before .before .before .before .before .before .before .advance .kept .1 .1 .1 .1 .1 .1 .0) (c .before .before .before .before .before .before .before .before .arrive .ensures) (c .before .before .before .before .enum-told .given .1) (c .before .before .walk .ensures)
 
-  same-length-3 : lts.Need-same-length-3 (R t) (given t) it.Post
-  same-length-3 c = search needs
-
   returns-4 : lts.Need-returns-4 (R t) (given t) it.Post
   returns-4 c = walk-ends (c .before .before .before .before .before .before .before .before .before .before .before .before .before .before .before .before .before .pre .1 .0) _ (c .before .before .before .before .before .before .before .before .before .before .before .before .before .before .before .before .before .pre .1 .1 .0) (c .before .before .before .before .before .before .before .before .before .before .before .before .before .before .before .before .before .pre .1 .1 .1 .0) (omega (arith, c .before .before .before .before .before .before .before .before .before .if1 .left)) (c .before .before .before .before .before .before .before .before .fetch .ensures) (c .before .before .before .before .before .before .advance .ensures) (c .before .answer2 .given .1)
-
-  same-length-4 : lts.Need-same-length-4 (R t) (given t) it.Post
-  same-length-4 c = search needs
 
   returns-5 : lts.Need-returns-5 (R t) (given t) it.Post
   returns-5 c = walk-refuses (c .before .before .before .before .before .before .before .before .before .before .before .before .before .before .before .before .before .pre .1 .0) _ (c .before .before .before .before .before .before .before .before .before .before .before .before .before .before .before .before .before .pre .1 .1 .0) (c .before .before .before .before .before .before .before .before .before .before .before .before .before .before .before .before .before .pre .1 .1 .1 .0) (omega (arith, c .before .before .before .before .before .before .before .before .before .if1 .left)) (c .before .before .before .before .before .before .before .before .fetch .ensures) (c .before .before .before .before .before .before .advance .ensures) (c .before .answer3 .given .1)
 
 pub +walk-spec : {M : Type 1} → statement M
-+walk-spec = close μ (λ t. lts.spec (R t) (given t) it.Post (returns t) (fetch-requires t) (advance-requires t) (enum-known-answer t) (arrive-requires t) (enum-known-arrived t) (enum-told t) (sub-walk t) (walk-requires t) (enum-known-answer-2 t) (enum-known-answer-3 t) (same-length t) (returns-2 t) (same-length-2 t) (returns-3 t) (same-length-3 t) (returns-4 t) (same-length-4 t) (returns-5 t))
++walk-spec = close μ (λ t. lts.spec (R t) (given t) it.Post (returns t) (fetch-requires t) (advance-requires t) (λ c. search needs) (arrive-requires t) (λ c. search needs) (λ c. search needs) (λ c. search needs) (walk-requires t) (λ c. search needs) (λ c. search needs) (same-length t) (returns-2 t) (same-length-2 t) (returns-3 t) (λ c. search needs) (returns-4 t) (λ c. search needs) (returns-5 t))

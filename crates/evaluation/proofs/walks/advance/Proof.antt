@@ -3,122 +3,62 @@ use Rattle.evaluation.proofs.walks.advance.Statement.{statement}
 use Rattle.evaluation.proofs.walks.advance.Tie as tie
 use Rattle.evaluation.proofs.Advancing.{set-asks, add-asks, add-immediate-asks, subtract-asks, load-asks, store-asks, jump-asks, less-asks, equal-asks, fixed-tables, set-moves, add-moves, add-immediate-moves, subtract-moves, load-moves, store-moves, jump-moves, less-moves, equal-moves, return-moves}
 
-enum-known-instruction : tie.Need-enum-known-instruction
-enum-known-instruction c = search needs
-
 set-requires : tie.Need-set-requires
 set-requires c κs = (set-asks _ (c .before .before .before .before .before .before .before .before .before .before .before .pre .1 .1 .1 .1) (c .before .before .instruction .given .1), c .before .before .before .before .before .before .before .before .before .before .before .pre .1 .0)
-
-enum-known-instruction-2 : tie.Need-enum-known-instruction-2
-enum-known-instruction-2 c = search needs
 
 combine-requires : tie.Need-combine-requires
 combine-requires c κs = (add-asks _ (c .before .before .before .before .before .before .before .before .before .before .before .pre .1 .1 .1 .1) (c .before .before .instruction2 .given .1), c .before .before .before .before .before .before .before .before .before .before .before .pre .1 .0)
 
-enum-known-instruction-3 : tie.Need-enum-known-instruction-3
-enum-known-instruction-3 c = search needs
-
 add-immediate-requires : tie.Need-add-immediate-requires
 add-immediate-requires c κs = (add-immediate-asks _ (c .before .before .before .before .before .before .before .before .before .before .before .pre .1 .1 .1 .1) (c .before .before .instruction3 .given .1), c .before .before .before .before .before .before .before .before .before .before .before .pre .1 .0)
-
-enum-known-instruction-4 : tie.Need-enum-known-instruction-4
-enum-known-instruction-4 c = search needs
 
 combine-requires-2 : tie.Need-combine-requires-2
 combine-requires-2 c κs = (subtract-asks _ (c .before .before .before .before .before .before .before .before .before .before .before .pre .1 .1 .1 .1) (c .before .before .instruction4 .given .1), c .before .before .before .before .before .before .before .before .before .before .before .pre .1 .0)
 
-enum-known-instruction-5 : tie.Need-enum-known-instruction-5
-enum-known-instruction-5 c = search needs
-
 load-requires : tie.Need-load-requires
 load-requires c κs = (load-asks _ (c .before .before .before .before .before .before .before .before .before .before .before .pre .1 .1 .1 .1) (c .before .before .instruction5 .given .1), (c .before .before .before .before .before .before .before .before .before .before .before .pre .0 .words, (c .before .before .before .before .before .before .before .before .before .before .before .pre .1 .0, c .before .before .before .before .before .before .before .before .before .before .before .pre .1 .1 .1 .0)))
-
-enum-known-instruction-6 : tie.Need-enum-known-instruction-6
-enum-known-instruction-6 c = search needs
 
 store-requires : tie.Need-store-requires
 store-requires c κs = (store-asks _ (c .before .before .before .before .before .before .before .before .before .before .before .pre .1 .1 .1 .1) (c .before .before .instruction6 .given .1), (c .before .before .before .before .before .before .before .before .before .before .before .pre .0 .words, (c .before .before .before .before .before .before .before .before .before .before .before .pre .1 .0, c .before .before .before .before .before .before .before .before .before .before .before .pre .1 .1 .1 .0)))
 
-enum-known-instruction-7 : tie.Need-enum-known-instruction-7
-enum-known-instruction-7 c = search needs
-
 jump-to-requires : tie.Need-jump-to-requires
 jump-to-requires c κs = (fixed-tables (c .before .before .before .before .before .before .before .before .before .before .before .pre .0), (c .before .before .before .before .before .before .before .before .before .before .before .pre .1 .0, (c .before .before .before .before .before .before .before .before .before .before .before .pre .1 .1 .0, (c .before .before .before .before .before .before .before .before .before .before .before .pre .1 .1 .1 .0, jump-asks _ (c .before .before .before .before .before .before .before .before .before .before .before .pre .1 .1 .1 .1) (c .before .before .before .before .before .before .before .before .before .before .before .pre .0 .settled .fits .few) (c .before .before .instruction7 .given .1)))))
-
-enum-known-instruction-8 : tie.Need-enum-known-instruction-8
-enum-known-instruction-8 c = search needs
 
 branch-to-requires : tie.Need-branch-to-requires
 branch-to-requires c κs = (fixed-tables (c .before .before .before .before .before .before .before .before .before .before .before .pre .0), (c .before .before .before .before .before .before .before .before .before .before .before .pre .1 .0, (c .before .before .before .before .before .before .before .before .before .before .before .pre .1 .1 .0, (c .before .before .before .before .before .before .before .before .before .before .before .pre .1 .1 .1 .0, less-asks _ (c .before .before .before .before .before .before .before .before .before .before .before .pre .1 .1 .1 .1) (c .before .before .before .before .before .before .before .before .before .before .before .pre .0 .settled .fits .few) (c .before .before .instruction8 .given .1)))))
 
-enum-known-instruction-9 : tie.Need-enum-known-instruction-9
-enum-known-instruction-9 c = search needs
-
 branch-to-requires-2 : tie.Need-branch-to-requires-2
 branch-to-requires-2 c κs = (fixed-tables (c .before .before .before .before .before .before .before .before .before .before .before .pre .0), (c .before .before .before .before .before .before .before .before .before .before .before .pre .1 .0, (c .before .before .before .before .before .before .before .before .before .before .before .pre .1 .1 .0, (c .before .before .before .before .before .before .before .before .before .before .before .pre .1 .1 .1 .0, equal-asks _ (c .before .before .before .before .before .before .before .before .before .before .before .pre .1 .1 .1 .1) (c .before .before .before .before .before .before .before .before .before .before .before .pre .0 .settled .fits .few) (c .before .before .instruction9 .given .1)))))
-
-enum-told : tie.Need-enum-told
-enum-told c = search needs
 
 return-from-requires : tie.Need-return-from-requires
 return-from-requires c κs = (c .before .before .before .before .before .before .before .before .before .before .pre .0 .words, (c .before .before .before .before .before .before .before .before .before .before .pre .1 .0, (c .before .before .before .before .before .before .before .before .before .before .pre .1 .1 .0, c .before .before .before .before .before .before .before .before .before .before .pre .1 .1 .1 .0)))
 
-same-length : tie.Need-same-length
-same-length c = search needs
-
 returns : tie.Need-returns
 returns c = set-moves (c .before .before .before .before .before .before .before .before .before .before .before .before .before .before .pre .0) (c .before .before .before .before .before .before .before .before .before .before .before .before .before .before .pre .1 .1 .1 .0) (c .before .before .before .before .before .instruction .given .1) (c .before .before .set .ensures)
-
-same-length-2 : tie.Need-same-length-2
-same-length-2 c = search needs
 
 returns-2 : tie.Need-returns-2
 returns-2 c = add-moves (c .before .before .before .before .before .before .before .before .before .before .before .before .before .before .pre .0) (c .before .before .before .before .before .before .before .before .before .before .before .before .before .before .pre .1 .1 .1 .0) (c .before .before .before .before .before .instruction2 .given .1) (c .before .before .combine .ensures)
 
-same-length-3 : tie.Need-same-length-3
-same-length-3 c = search needs
-
 returns-3 : tie.Need-returns-3
 returns-3 c = add-immediate-moves (c .before .before .before .before .before .before .before .before .before .before .before .before .before .before .pre .0) (c .before .before .before .before .before .before .before .before .before .before .before .before .before .before .pre .1 .1 .1 .0) (c .before .before .before .before .before .instruction3 .given .1) (c .before .before .add-immediate .ensures)
-
-same-length-4 : tie.Need-same-length-4
-same-length-4 c = search needs
 
 returns-4 : tie.Need-returns-4
 returns-4 c = subtract-moves (c .before .before .before .before .before .before .before .before .before .before .before .before .before .before .pre .0) (c .before .before .before .before .before .before .before .before .before .before .before .before .before .before .pre .1 .1 .1 .0) (c .before .before .before .before .before .instruction4 .given .1) (c .before .before .combine2 .ensures)
 
-same-length-5 : tie.Need-same-length-5
-same-length-5 c = search needs
-
 returns-5 : tie.Need-returns-5
 returns-5 c = load-moves (c .before .before .before .before .before .before .before .before .before .before .before .before .before .before .pre .0) (c .before .before .before .before .before .instruction5 .given .1) (c .before .before .load .ensures)
-
-same-length-6 : tie.Need-same-length-6
-same-length-6 c = search needs
 
 returns-6 : tie.Need-returns-6
 returns-6 c = store-moves (c .before .before .before .before .before .before .before .before .before .before .before .before .before .before .pre .0) (c .before .before .before .before .before .instruction6 .given .1) (c .before .before .store .ensures)
 
-same-length-7 : tie.Need-same-length-7
-same-length-7 c = search needs
-
 returns-7 : tie.Need-returns-7
 returns-7 c = jump-moves (c .before .before .before .before .before .before .before .before .before .before .before .before .before .before .pre .0) (c .before .before .before .before .before .instruction7 .given .1) (c .before .before .jump-to .ensures)
-
-same-length-8 : tie.Need-same-length-8
-same-length-8 c = search needs
 
 returns-8 : tie.Need-returns-8
 returns-8 c = less-moves (c .before .before .before .before .before .before .before .before .before .before .before .before .before .before .pre .0) (c .before .before .before .before .before .before .before .before .before .before .before .before .before .before .pre .1 .0 .path-in) (less-asks _ (c .before .before .before .before .before .before .before .before .before .before .before .before .before .before .pre .1 .1 .1 .1) (c .before .before .before .before .before .before .before .before .before .before .before .before .before .before .pre .0 .settled .fits .few) (c .before .before .before .before .before .instruction8 .given .1) .1) (c .before .before .before .before .before .instruction8 .given .1) (c .before .before .branch-to .ensures)
 
-same-length-9 : tie.Need-same-length-9
-same-length-9 c = search needs
-
 returns-9 : tie.Need-returns-9
 returns-9 c = equal-moves (c .before .before .before .before .before .before .before .before .before .before .before .before .before .before .pre .0) (c .before .before .before .before .before .before .before .before .before .before .before .before .before .before .pre .1 .0 .path-in) (equal-asks _ (c .before .before .before .before .before .before .before .before .before .before .before .before .before .before .pre .1 .1 .1 .1) (c .before .before .before .before .before .before .before .before .before .before .before .before .before .before .pre .0 .settled .fits .few) (c .before .before .before .before .before .instruction9 .given .1) .1) (c .before .before .before .before .before .instruction9 .given .1) (c .before .before .branch-to2 .ensures)
-
-same-length-10 : tie.Need-same-length-10
-same-length-10 c = search needs
 
 returns-10 : tie.Need-returns-10
 returns-10 c = return-moves (c .before .before .before .before .before .before .before .before .before .before .before .before .before .pre .0) (c .before .before .before .before .enum-told .given .1) (c .before .before .return-from .ensures)
@@ -127,43 +67,43 @@ pub advance-spec : {M : Type 1} → statement M
 advance-spec =
     tie.close
     (tie.spec
-    enum-known-instruction
+    (λ c. search needs)
     set-requires
-    enum-known-instruction-2
+    (λ c. search needs)
     combine-requires
-    enum-known-instruction-3
+    (λ c. search needs)
     add-immediate-requires
-    enum-known-instruction-4
+    (λ c. search needs)
     combine-requires-2
-    enum-known-instruction-5
+    (λ c. search needs)
     load-requires
-    enum-known-instruction-6
+    (λ c. search needs)
     store-requires
-    enum-known-instruction-7
+    (λ c. search needs)
     jump-to-requires
-    enum-known-instruction-8
+    (λ c. search needs)
     branch-to-requires
-    enum-known-instruction-9
+    (λ c. search needs)
     branch-to-requires-2
-    enum-told
+    (λ c. search needs)
     return-from-requires
-    same-length
+    (λ c. search needs)
     returns
-    same-length-2
+    (λ c. search needs)
     returns-2
-    same-length-3
+    (λ c. search needs)
     returns-3
-    same-length-4
+    (λ c. search needs)
     returns-4
-    same-length-5
+    (λ c. search needs)
     returns-5
-    same-length-6
+    (λ c. search needs)
     returns-6
-    same-length-7
+    (λ c. search needs)
     returns-7
-    same-length-8
+    (λ c. search needs)
     returns-8
-    same-length-9
+    (λ c. search needs)
     returns-9
-    same-length-10
+    (λ c. search needs)
     returns-10)

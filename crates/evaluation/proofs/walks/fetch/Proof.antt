@@ -3,15 +3,6 @@ use Rattle.evaluation.proofs.WalkLaws.{fetched, not-fetched}
 use Rattle.evaluation.proofs.walks.fetch.Statement.{statement}
 use Rattle.evaluation.proofs.walks.fetch.Tie as tie
 
-instruction-requires : tie.Need-instruction-requires
-instruction-requires c κs = search needs
-
-enum-known-answer : tie.Need-enum-known-answer
-enum-known-answer c = search needs
-
-enum-told : tie.Need-enum-told
-enum-told c = search needs
-
 returns : tie.Need-returns
 returns c = fetched (c .before .before .before .before .before .pre .1) (c .before .before .before .instruction .ensures) (c .before .answer .given .1)
 
@@ -20,4 +11,4 @@ returns-2 c = not-fetched (c .before .before .before .before .pre .1) (c .before
 
 pub fetch-spec : {M : Type 1} → statement M
 fetch-spec =
-    tie.close (tie.spec instruction-requires enum-known-answer enum-told returns returns-2)
+    tie.close (tie.spec (λ c κs. search needs) (λ c. search needs) (λ c. search needs) returns returns-2)

@@ -5,12 +5,6 @@ use borrow.Author.Needs.{needs}
 use Rattle.header.proofs.finder.find_proof.Statement.{statement}
 use Rattle.header.proofs.finder.find_proof.Tie as tie
 
-read-header-requires : tie.Need-read-header-requires
-read-header-requires c κs = search needs
-
-enum-known-answer : tie.Need-enum-known-answer
-enum-known-answer c = search needs
-
 proof-start-requires : tie.Need-proof-start-requires
 proof-start-requires c κs = let p = passed (c .before .before .before .read-header .ensures) (c .before .answer .given .1) .1 in omega arith
 
@@ -23,12 +17,6 @@ part-result-start c = omega (arith, start-inside (c .before .before .before .bef
 part-result-end : tie.Need-part-result-end
 part-result-end c = omega (arith, start-inside (c .before .before .before .before .read-header .ensures) (c .before .before .answer .given .1) _ (c .proof-start .ensures))
 
-enum-told : tie.Need-enum-told
-enum-told c = search needs
-
-slice-aggregate-result : tie.Need-slice-aggregate-result
-slice-aggregate-result c = search needs
-
 returns : tie.Need-returns
 returns c = let k = proof-part (c .before .before .before .before .before .read-header .ensures) (c .before .before .before .answer .given .1) _ (c .before .proof-start .ensures) in (k .0, (refl, omega (arith, k .1)))
 
@@ -39,13 +27,13 @@ pub find-proof-spec : {M : Type 1} → statement M
 find-proof-spec =
     tie.close
     (tie.spec
-    read-header-requires
-    enum-known-answer
+    (λ c κs. search needs)
+    (λ c. search needs)
     proof-start-requires
     sub-result
     part-result-start
     part-result-end
-    enum-told
-    slice-aggregate-result
+    (λ c. search needs)
+    (λ c. search needs)
     returns
     returns-2)

@@ -5,17 +5,8 @@ use Rattle.moves.proofs.Accessing.{variable-loads}
 use Rattle.moves.proofs.accesses.loaded.Statement.{statement}
 use Rattle.moves.proofs.accesses.loaded.Tie as tie
 
-cast-put-variable : tie.Need-cast-put-variable
-cast-put-variable c = search needs
-
 put-variable-requires : tie.Need-put-variable-requires
 put-variable-requires c κs = (first-room (c .before .before .before .pre .1) .0, (first-room (c .before .before .before .pre .1) .1, omega (arith, c .before .before .before .pre .1 .loaded)))
-
-add-raised : tie.Need-add-raised
-add-raised c = search needs
-
-raised-requires : tie.Need-raised-requires
-raised-requires c κs = search needs
 
 with-variable-requires : tie.Need-with-variable-requires
 with-variable-requires c κs = rw (c .raised .ensures) (omega (arith, c .before .before .before .before .before .before .before .pre .1 .loaded))
@@ -29,9 +20,6 @@ add-stepped c = omega (arith, c .before .before .before .before .before .before 
 stepped-requires : tie.Need-stepped-requires
 stepped-requires c κs = rw (c .before .written .ensures, c .before .before .with-variable .ensures, c .before .before .before .raised .ensures) (omega (arith, c .before .before .before .before .before .before .before .before .before .before .pre .1 .run))
 
-same-length : tie.Need-same-length
-same-length c = search needs
-
 returns : tie.Need-returns
 returns c = variable-loads _ (c .before .before .before .before .before .before .before .before .before .before .before .pre .1) (c .before .before .before .before .before .before .before .put-variable .kept .0) (c .before .before .before .before .before .before .before .before .before .before .before .pre .0) (c .before .before .before .before .before .before .before .put-variable .ensures) (c .before .before .before .before .raised .ensures) (c .before .before .before .with-variable .ensures) (c .before .before .written .ensures) (c .stepped .ensures)
 
@@ -39,13 +27,13 @@ pub loaded-spec : {M : Type 1} → statement M
 loaded-spec =
     tie.close
     (tie.spec
-    cast-put-variable
+    (λ c. search needs)
     put-variable-requires
-    add-raised
-    raised-requires
+    (λ c. search needs)
+    (λ c κs. search needs)
     with-variable-requires
     written-requires
     add-stepped
     stepped-requires
-    same-length
+    (λ c. search needs)
     returns)

@@ -3,15 +3,6 @@ use Rattle.moves.proofs.Assigning.{assigned-on, assigned-not}
 use Rattle.moves.proofs.assignments.assign.Statement.{statement}
 use Rattle.moves.proofs.assignments.assign.Tie as tie
 
-small-requires : tie.Need-small-requires
-small-requires c κs = search needs
-
-written-requires : tie.Need-written-requires
-written-requires c κs = search needs
-
-add-stepped : tie.Need-add-stepped
-add-stepped c = search needs
-
 stepped-requires : tie.Need-stepped-requires
 stepped-requires c κs = rw (c .before .written .ensures) (c .before .before .before .before .before .pre .1 .0 .0)
 
@@ -24,4 +15,4 @@ returns-2 c = assigned-not _ _ _ _ (c .before .small .ensures) (c .if1 .left)
 pub assign-spec : {M : Type 1} → statement M
 assign-spec =
     tie.close
-    (tie.spec small-requires written-requires add-stepped stepped-requires returns returns-2)
+    (tie.spec (λ c κs. search needs) (λ c κs. search needs) (λ c. search needs) stepped-requires returns returns-2)

@@ -4,32 +4,14 @@ use Rattle.moves.proofs.assignments.put_combined.Tie as tie
 use Rattle.moves.proofs.Assigning.{pair-room, combined-built}
 use Rattle.moves.specs.declared.assignments.Operation.the-variants.{Add, Subtract}
 
-node-requires : tie.Need-node-requires
-node-requires c κs = search needs
-
-node-requires-2 : tie.Need-node-requires-2
-node-requires-2 c κs = search needs
-
-enum-told : tie.Need-enum-told
-enum-told c = search needs
-
 put-sum-requires : tie.Need-put-sum-requires
 put-sum-requires c κs = pair-room (c .before .before .before .before .before .before .pre .0 .0) (c .before .before .before .before .before .before .pre .0 .1) (c .before .before .before .before .node .ensures) (c .before .before .before .node2 .ensures) (c .before .before .before .before .before .before .pre .1)
-
-enum-told-2 : tie.Need-enum-told-2
-enum-told-2 c = search needs
 
 put-difference-requires : tie.Need-put-difference-requires
 put-difference-requires c κs = pair-room (c .before .before .before .before .before .before .pre .0 .0) (c .before .before .before .before .before .before .pre .0 .1) (c .before .before .before .before .node .ensures) (c .before .before .before .node2 .ensures) (c .before .before .before .before .before .before .pre .1)
 
-same-length : tie.Need-same-length
-same-length c = search needs
-
 returns : tie.Need-returns
 returns c = rw (c .before .before .before .before .enum-told .given .1) (combined-built (c .before .before .before .before .before .before .before .before .before .pre .1 .path-in) (c .before .before .put-sum .kept .0) (c .before .before .before .before .before .before .before .before .before .pre .0 .0) (c .before .before .before .before .before .before .before .before .before .pre .0 .1) (c .before .before .before .before .before .before .before .node .ensures) (c .before .before .before .before .before .before .node2 .ensures) Add (c .before .before .put-sum .ensures))
-
-same-length-2 : tie.Need-same-length-2
-same-length-2 c = search needs
 
 returns-2 : tie.Need-returns-2
 returns-2 c = rw (c .before .before .before .before .enum-told2 .given .1) (combined-built (c .before .before .before .before .before .before .before .before .before .pre .1 .path-in) (c .before .before .put-difference .kept .0) (c .before .before .before .before .before .before .before .before .before .pre .0 .0) (c .before .before .before .before .before .before .before .before .before .pre .0 .1) (c .before .before .before .before .before .before .before .node .ensures) (c .before .before .before .before .before .before .node2 .ensures) Subtract (c .before .before .put-difference .ensures))
@@ -38,13 +20,13 @@ pub put-combined-spec : {M : Type 1} → statement M
 put-combined-spec =
     tie.close
     (tie.spec
-    node-requires
-    node-requires-2
-    enum-told
+    (λ c κs. search needs)
+    (λ c κs. search needs)
+    (λ c. search needs)
     put-sum-requires
-    enum-told-2
+    (λ c. search needs)
     put-difference-requires
-    same-length
+    (λ c. search needs)
     returns
-    same-length-2
+    (λ c. search needs)
     returns-2)

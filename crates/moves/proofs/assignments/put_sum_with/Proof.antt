@@ -6,17 +6,8 @@ use Rattle.moves.proofs.assignments.put_sum_with.Tie as tie
 put-constant-requires : tie.Need-put-constant-requires
 put-constant-requires c κs = first-room (c .before .before .pre .1)
 
-add-put-sum : tie.Need-add-put-sum
-add-put-sum c = search needs
-
-node-requires : tie.Need-node-requires
-node-requires c κs = search needs
-
 put-sum-requires : tie.Need-put-sum-requires
 put-sum-requires c κs = second-room (c .before .before .before .before .before .before .before .pre .1) (c .before .before .before .before .before .before .before .pre .0) (c .node .ensures) (c .before .before .before .before .put-constant .kept .0) (c .before .before .before .before .put-constant .ensures)
-
-same-length : tie.Need-same-length
-same-length c = search needs
 
 returns : tie.Need-returns
 returns c = sum-with-built (c .before .before .before .before .before .before .before .before .before .before .pre .1 .path-in) (c .before .before .before .before .before .before .before .put-constant .kept .0) (c .before .before .put-sum .kept .0) (c .before .before .before .before .before .before .before .before .before .before .pre .0) (c .before .before .before .node .ensures) (c .before .before .before .before .before .before .before .put-constant .ensures) (c .before .before .put-sum .ensures)
@@ -24,4 +15,4 @@ returns c = sum-with-built (c .before .before .before .before .before .before .b
 pub put-sum-with-spec : {M : Type 1} → statement M
 put-sum-with-spec =
     tie.close
-    (tie.spec put-constant-requires add-put-sum node-requires put-sum-requires same-length returns)
+    (tie.spec put-constant-requires (λ c. search needs) (λ c κs. search needs) put-sum-requires (λ c. search needs) returns)

@@ -7,17 +7,8 @@ use Rattle.moves.proofs.assignments.set.Tie as tie
 put-constant-requires : tie.Need-put-constant-requires
 put-constant-requires c κs = first-room (c .before .before .pre .1)
 
-add-raised : tie.Need-add-raised
-add-raised c = search needs
-
-raised-requires : tie.Need-raised-requires
-raised-requires c κs = search needs
-
 assign-requires : tie.Need-assign-requires
 assign-requires c κs = rw (c .raised .ensures) (built-asks 1 (c .before .before .before .before .before .before .before .pre .1) (c .before .before .before .before .put-constant .kept .0) (c .before .before .before .before .before .before .before .pre .0) (omega arith) (constant-built (c .before .before .before .before .before .before .before .pre .1 .path-in) (c .before .before .before .before .put-constant .kept .0) (c .before .before .before .before .put-constant .ensures)))
-
-same-length : tie.Need-same-length
-same-length c = search needs
 
 returns : tie.Need-returns
 returns c = built-assigns _ (c .before .before .before .before .before .before .before .before .pre .1) (c .before .before .before .before .before .put-constant .kept .0) (c .before .before .before .before .before .before .before .before .pre .0) (omega arith) (constant-built (c .before .before .before .before .before .before .before .before .pre .1 .path-in) (c .before .before .before .before .before .put-constant .kept .0) (c .before .before .before .before .before .put-constant .ensures)) (c .before .raised .ensures) (c .assign .ensures)
@@ -25,4 +16,4 @@ returns c = built-assigns _ (c .before .before .before .before .before .before .
 pub set-spec : {M : Type 1} → statement M
 set-spec =
     tie.close
-    (tie.spec put-constant-requires add-raised raised-requires assign-requires same-length returns)
+    (tie.spec put-constant-requires (λ c. search needs) (λ c κs. search needs) assign-requires (λ c. search needs) returns)

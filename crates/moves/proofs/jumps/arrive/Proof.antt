@@ -5,18 +5,6 @@ use mathlib.Core.Path.{refl}
 use Rattle.moves.proofs.jumps.arrive.Statement.{statement}
 use Rattle.moves.proofs.jumps.arrive.Tie as tie
 
-cast-position : tie.Need-cast-position
-cast-position c = search needs
-
-position-requires : tie.Need-position-requires
-position-requires c κs = search needs
-
-enum-known-found : tie.Need-enum-known-found
-enum-known-found c = search needs
-
-enum-told : tie.Need-enum-told
-enum-told c = search needs
-
 returns : tie.Need-returns
 returns c = arrived-nowhere (c .before .before .before .before .before .before .before .before .before .before .pre .0) _ (c .before .before .position .ensures) refl (c .enum-told .given .1)
 
@@ -26,14 +14,8 @@ mul-wide c = omega (arith, place-inside (c .before .before .before .before .befo
 shared-slice-read-wide : tie.Need-shared-slice-read-wide
 shared-slice-read-wide c = place-inside (c .before .before .before .before .before .before .before .before .before .before .before .before .pre .0) _ (c .before .before .before .before .position .ensures) (c .before .before .found .given .1)
 
-wide-requires : tie.Need-wide-requires
-wide-requires c κs = search needs
-
 arrival-requires : tie.Need-arrival-requires
 arrival-requires c κs = (arrival-asks (c .before .before .before .before .before .before .before .before .before .before .before .before .before .before .before .pre .0) _ (c .before .before .before .before .before .before .before .position .ensures) (c .before .before .before .before .before .found .given .1) (c .before .before .wide .ensures), (c .before .before .before .before .before .before .before .before .before .before .before .before .before .before .before .pre .1 .0, c .before .before .before .before .before .before .before .before .before .before .before .before .before .before .before .pre .1 .1 .0))
-
-same-length : tie.Need-same-length
-same-length c = search needs
 
 returns-2 : tie.Need-returns-2
 returns-2 c = arrived-at (c .before .before .before .before .before .before .before .before .before .before .before .before .before .before .before .before .before .before .pre .0) _ (c .before .before .before .before .before .before .before .before .before .before .position .ensures) refl (c .before .before .before .before .before .before .before .before .found .given .1) (c .before .before .before .before .before .wide .ensures) (c .before .before .arrival .ensures)
@@ -42,14 +24,14 @@ pub arrive-spec : {M : Type 1} → statement M
 arrive-spec =
     tie.close
     (tie.spec
-    cast-position
-    position-requires
-    enum-known-found
-    enum-told
+    (λ c. search needs)
+    (λ c κs. search needs)
+    (λ c. search needs)
+    (λ c. search needs)
     returns
     mul-wide
     shared-slice-read-wide
-    wide-requires
+    (λ c κs. search needs)
     arrival-requires
-    same-length
+    (λ c. search needs)
     returns-2)

@@ -7,50 +7,14 @@ use Rattle.moves.proofs.PathLaws.{room-kept}
 use Rattle.moves.proofs.Assigning.{pair-below}
 use Rattle.moves.proofs.Jumping.{opposite-below, assume-asks, edge-asks, taken-kept, branch-nowhere, branch-stopped, branch-on}
 
-node-requires : tie.Need-node-requires
-node-requires c κs = search needs
-
-node-requires-2 : tie.Need-node-requires-2
-node-requires-2 c κs = search needs
-
-wide-requires : tie.Need-wide-requires
-wide-requires c κs = search needs
-
-stepped-requires : tie.Need-stepped-requires
-stepped-requires c κs = search needs
-
 assuming-requires : tie.Need-assuming-requires
 assuming-requires c κs = assume-asks (c .before .before .before .before .before .before .before .before .before .before .pre .1 .0) (c .before .stepped .ensures) (pair-below (c .before .before .before .before .before .before .before .before .before .before .pre .1 .1 .1 .1 .1 .0) (c .before .before .before .before .before .before .before .before .before .before .pre .1 .1 .1 .1 .1 .1) (c .before .before .before .before .node .ensures) (c .before .before .before .node2 .ensures) (c .before .before .before .before .before .before .before .before .before .before .pre .1 .0 .path-in))
 
 arrive-requires : tie.Need-arrive-requires
 arrive-requires c κs = edge-asks (c .before .before .before .before .before .before .before .before .before .before .before .before .before .before .pre .1 .0) (rw (c .before .before .before .before .before .before .wide .ensures) at (c .before .before .before .before .before .stepped .ensures)) (c .before .before .before .assuming .ensures) (c .before .before .before .before .before .before .before .before .before .before .before .before .before .before .pre .0) (c .before .before .before .before .before .before .before .before .before .before .before .before .before .before .pre .1 .1 .0) (c .before .before .before .before .before .before .before .before .before .before .before .before .before .before .pre .1 .1 .1 .0) (c .before .before .before .before .before .before .before .before .before .before .before .before .before .before .pre .1 .1 .1 .1 .0) (c .before .before .before .assuming .kept .0)
 
-enum-known-arrived : tie.Need-enum-known-arrived
-enum-known-arrived c = search needs
-
-enum-told : tie.Need-enum-told
-enum-told c = search needs
-
-unannotated-requires : tie.Need-unannotated-requires
-unannotated-requires c κs = search needs
-
-same-length : tie.Need-same-length
-same-length c = search needs
-
 returns : tie.Need-returns
 returns c = rw (← c .before .before .before .before .before .before .before .before .before .before .before .before .before .before .node .ensures, ← c .before .before .before .before .before .before .before .before .before .before .before .before .before .node2 .ensures) (branch-nowhere (c .before .before .before .before .before .before .before .before .before .before .before .before .before .before .before .before .before .before .before .before .pre .1 .0) (c .before .before .before .before .before .before .before .before .before .before .before .before .before .before .before .before .before .before .before .before .pre .1 .1 .0) (rw (c .before .before .before .before .before .before .before .before .before .before .before .before .wide .ensures) at (c .before .before .before .before .before .before .before .before .before .before .before .stepped .ensures)) (c .before .before .before .before .before .before .before .before .before .assuming .ensures) (c .before .before .before .before .before .arrive .ensures) _ (c .before .enum-told .given .1) (c .unannotated .ensures))
-
-enum-known-judged : tie.Need-enum-known-judged
-enum-known-judged c = search needs
-
-enum-told-2 : tie.Need-enum-told-2
-enum-told-2 c = search needs
-
-ended-requires : tie.Need-ended-requires
-ended-requires c κs = search needs
-
-same-length-2 : tie.Need-same-length-2
-same-length-2 c = search needs
 
 returns-2 : tie.Need-returns-2
 returns-2 c = rw (← c .before .before .before .before .before .before .before .before .before .before .before .before .before .before .before .before .before .node .ensures, ← c .before .before .before .before .before .before .before .before .before .before .before .before .before .before .before .before .node2 .ensures) (branch-stopped (c .before .before .before .before .before .before .before .before .before .before .before .before .before .before .before .before .before .before .before .before .before .before .before .pre .1 .0) (c .before .before .before .before .before .before .before .before .before .before .before .before .before .before .before .before .before .before .before .before .before .before .before .pre .1 .1 .0) (rw (c .before .before .before .before .before .before .before .before .before .before .before .before .before .before .before .wide .ensures) at (c .before .before .before .before .before .before .before .before .before .before .before .before .before .before .stepped .ensures)) (c .before .before .before .before .before .before .before .before .before .before .before .before .assuming .ensures) (c .before .before .before .before .before .before .before .before .arrive .ensures) (c .before .before .before .before .arrived .given .1) _ (c .before .enum-told2 .given .1) (c .ended .ensures))
@@ -60,9 +24,6 @@ add-stepped c = omega (arith, c .before .before .before .before .before .before 
 
 stepped-requires-2 : tie.Need-stepped-requires-2
 stepped-requires-2 c κs = omega (arith, c .before .before .before .before .before .before .before .before .before .before .before .before .before .before .before .before .before .before .before .before .before .before .before .before .pre .1 .0 .run)
-
-opposite-requires : tie.Need-opposite-requires
-opposite-requires c κs = search needs
 
 assuming-requires-2 : tie.Need-assuming-requires-2
 assuming-requires-2 c κs = assume-asks (room-kept (taken-kept (c .before .before .before .before .before .before .before .before .before .before .before .before .before .before .before .before .before .before .before .before .before .before .before .before .before .before .before .pre .1 .0) (c .before .before .before .before .before .before .before .before .before .before .before .before .before .before .before .before .before .before .before .before .before .before .before .before .before .before .before .pre .1 .1 .0) (rw (c .before .before .before .before .before .before .before .before .before .before .before .before .before .before .before .before .before .before .before .wide .ensures) at (c .before .before .before .before .before .before .before .before .before .before .before .before .before .before .before .before .before .before .stepped .ensures)) (c .before .before .before .before .before .before .before .before .before .before .before .before .before .before .before .before .assuming .ensures) (c .before .before .before .before .before .before .before .before .before .before .before .before .arrive .ensures)) (c .before .before .before .before .before .before .before .before .before .before .before .before .arrive .kept .1 .1 .1 .1 .1 .0 ∙ c .before .before .before .before .before .before .before .before .before .before .before .before .before .before .before .before .assuming .kept .0) (c .before .before .before .before .before .before .before .before .before .before .before .before .before .before .before .before .before .before .before .before .before .before .before .before .before .before .before .pre .1 .0)) (c .before .before .stepped2 .ensures) (opposite-below (c .before .before .before .before .before .before .before .before .before .before .before .before .before .before .before .before .before .before .before .before .before .before .before .before .before .before .before .args .kind) (c .before .opposite .ensures) (pair-below (c .before .before .before .before .before .before .before .before .before .before .before .before .before .before .before .before .before .before .before .before .before .before .before .before .before .before .before .pre .1 .1 .1 .1 .1 .0) (c .before .before .before .before .before .before .before .before .before .before .before .before .before .before .before .before .before .before .before .before .before .before .before .before .before .before .before .pre .1 .1 .1 .1 .1 .1) (c .before .before .before .before .before .before .before .before .before .before .before .before .before .before .before .before .before .before .before .before .before .node .ensures) (c .before .before .before .before .before .before .before .before .before .before .before .before .before .before .before .before .before .before .before .before .node2 .ensures) (c .before .before .before .before .before .before .before .before .before .before .before .before .before .before .before .before .before .before .before .before .before .before .before .before .before .before .before .pre .1 .0 .path-in)))
@@ -77,25 +38,25 @@ pub branch-to-spec : {M : Type 1} → statement M
 branch-to-spec =
     tie.close
     (tie.spec
-    node-requires
-    node-requires-2
-    wide-requires
-    stepped-requires
+    (λ c κs. search needs)
+    (λ c κs. search needs)
+    (λ c κs. search needs)
+    (λ c κs. search needs)
     assuming-requires
     arrive-requires
-    enum-known-arrived
-    enum-told
-    unannotated-requires
-    same-length
+    (λ c. search needs)
+    (λ c. search needs)
+    (λ c κs. search needs)
+    (λ c. search needs)
     returns
-    enum-known-judged
-    enum-told-2
-    ended-requires
-    same-length-2
+    (λ c. search needs)
+    (λ c. search needs)
+    (λ c κs. search needs)
+    (λ c. search needs)
     returns-2
     add-stepped
     stepped-requires-2
-    opposite-requires
+    (λ c κs. search needs)
     assuming-requires-2
     same-length-3
     returns-3)

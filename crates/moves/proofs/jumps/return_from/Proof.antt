@@ -6,14 +6,8 @@ use Rattle.moves.proofs.jumps.return_from.Tie as tie
 returning-requires : tie.Need-returning-requires
 returning-requires c κs = (room-going (c .before .before .before .before .before .pre .1 .0) (c .before .before .before .before .before .pre .0) (c .before .before .before .before .before .pre .1 .1 .1), c .before .before .before .before .before .pre .1 .1 .0)
 
-ended-requires : tie.Need-ended-requires
-ended-requires c κs = search needs
-
-same-length : tie.Need-same-length
-same-length c = search needs
-
 returns : tie.Need-returns
 returns c = return-ended _ (c .before .before .before .before .before .before .before .before .before .pre .1 .0) (c .before .before .before .returning .ensures) (c .ended .ensures)
 
 pub return-from-spec : {M : Type 1} → statement M
-return-from-spec = tie.close (tie.spec returning-requires ended-requires same-length returns)
+return-from-spec = tie.close (tie.spec returning-requires (λ c κs. search needs) (λ c. search needs) returns)

@@ -16,51 +16,6 @@ abbrev μ-loop : tie.MeasureT-loop
 loop-holds : tie.Need-loop-holds Inv-loop μ-loop
 loop-holds c = (omega arith, none-written refl)
 
-mul-region : tie.Need-mul-region Inv-loop μ-loop
-mul-region c = search needs
-
-element-copy-out-region : tie.Need-element-copy-out-region Inv-loop μ-loop
-element-copy-out-region c = search needs
-
-mul-words : tie.Need-mul-words Inv-loop μ-loop
-mul-words c = search needs
-
-mul-words-2 : tie.Need-mul-words-2 Inv-loop μ-loop
-mul-words-2 c = search needs
-
-array-write-words : tie.Need-array-write-words Inv-loop μ-loop
-array-write-words c = search needs
-
-mul-words-3 : tie.Need-mul-words-3 Inv-loop μ-loop
-mul-words-3 c = search needs
-
-add-words : tie.Need-add-words Inv-loop μ-loop
-add-words c = search needs
-
-mul-words-4 : tie.Need-mul-words-4 Inv-loop μ-loop
-mul-words-4 c = search needs
-
-array-write-words-2 : tie.Need-array-write-words-2 Inv-loop μ-loop
-array-write-words-2 c = search needs
-
-mul-words-5 : tie.Need-mul-words-5 Inv-loop μ-loop
-mul-words-5 c = search needs
-
-add-words-2 : tie.Need-add-words-2 Inv-loop μ-loop
-add-words-2 c = search needs
-
-mul-words-6 : tie.Need-mul-words-6 Inv-loop μ-loop
-mul-words-6 c = search needs
-
-array-write-words-3 : tie.Need-array-write-words-3 Inv-loop μ-loop
-array-write-words-3 c = search needs
-
-add-j : tie.Need-add-j Inv-loop μ-loop
-add-j c = search needs
-
-loop-less : tie.Need-loop-less Inv-loop μ-loop
-loop-less c = search needs
-
 loop-again : tie.Need-loop-again Inv-loop μ-loop
 loop-again c = (omega arith, written-more (c .before .before .loop .inv .1) (omega (arith, c .before .before .before .pre)) refl)
 
@@ -74,20 +29,20 @@ region-words-spec =
     Inv-loop
     μ-loop
     loop-holds
-    mul-region
-    element-copy-out-region
-    mul-words
-    mul-words-2
-    array-write-words
-    mul-words-3
-    add-words
-    mul-words-4
-    array-write-words-2
-    mul-words-5
-    add-words-2
-    mul-words-6
-    array-write-words-3
-    add-j
-    loop-less
+    (λ c. search needs)
+    (λ c. search needs)
+    (λ c. search needs)
+    (λ c. search needs)
+    (λ c. search needs)
+    (λ c. search needs)
+    (λ c. search needs)
+    (λ c. search needs)
+    (λ c. search needs)
+    (λ c. search needs)
+    (λ c. search needs)
+    (λ c. search needs)
+    (λ c. search needs)
+    (λ c. search needs)
+    (λ c. search needs)
     loop-again
     returns)

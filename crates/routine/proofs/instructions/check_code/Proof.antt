@@ -13,23 +13,8 @@ abbrev μ-loop : tie.MeasureT-loop
 loop-holds : tie.Need-loop-holds Inv-loop μ-loop
 loop-holds c = check-start _ _
 
-instruction-requires : tie.Need-instruction-requires Inv-loop μ-loop
-instruction-requires c κs = search needs
-
-enum-known-answer : tie.Need-enum-known-answer Inv-loop μ-loop
-enum-known-answer c = search needs
-
 returns : tie.Need-returns Inv-loop μ-loop
 returns c = check-refused _ _ _ (c .before .before .before .before .before .before .loop .inv) _ (c .before .before .before .instruction .ensures) (c .before .before .before .before .if1 .taken) _ (c .before .answer .given .1)
-
-enum-told : tie.Need-enum-told Inv-loop μ-loop
-enum-told c = search needs
-
-add-index : tie.Need-add-index Inv-loop μ-loop
-add-index c = search needs
-
-loop-less : tie.Need-loop-less Inv-loop μ-loop
-loop-less c = search needs
 
 loop-again : tie.Need-loop-again Inv-loop μ-loop
 loop-again c = check-more _ _ _ (c .before .before .before .before .before .loop .inv) _ (c .before .before .instruction .ensures) (c .before .before .before .if1 .taken) _ (c .enum-told .given .1)
@@ -44,11 +29,11 @@ check-code-spec =
     Inv-loop
     μ-loop
     loop-holds
-    instruction-requires
-    enum-known-answer
+    (λ c κs. search needs)
+    (λ c. search needs)
     returns
-    enum-told
-    add-index
-    loop-less
+    (λ c. search needs)
+    (λ c. search needs)
+    (λ c. search needs)
     loop-again
     returns-2)

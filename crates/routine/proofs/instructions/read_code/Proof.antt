@@ -15,29 +15,8 @@ abbrev μ-loop : tie.MeasureT-loop
 loop-holds : tie.Need-loop-holds Inv-loop μ-loop
 loop-holds c = read-start _ _ mostInstructions refl
 
-instruction-requires : tie.Need-instruction-requires Inv-loop μ-loop
-instruction-requires c κs = search needs
-
-enum-known-answer : tie.Need-enum-known-answer Inv-loop μ-loop
-enum-known-answer c = search needs
-
-mul-code : tie.Need-mul-code Inv-loop μ-loop
-mul-code c = search needs
-
-array-set-from-code : tie.Need-array-set-from-code Inv-loop μ-loop
-array-set-from-code c = search needs
-
-add-index : tie.Need-add-index Inv-loop μ-loop
-add-index c = search needs
-
-loop-less : tie.Need-loop-less Inv-loop μ-loop
-loop-less c = search needs
-
 loop-again : tie.Need-loop-again Inv-loop μ-loop
 loop-again c = read-more _ _ _ _ (c .before .before .before .before .before .before .loop .inv) _ (c .before .before .before .instruction .ensures) (c .before .before .before .before .if1 .taken) (c .before .before .before .before .before .before .before .before .pre .few) _ (c .before .answer .given .1)
-
-enum-known-answer-2 : tie.Need-enum-known-answer-2 Inv-loop μ-loop
-enum-known-answer-2 c = search needs
 
 returns : tie.Need-returns Inv-loop μ-loop
 returns c = read-refused _ _ _ _ (c .before .before .before .before .before .before .loop .inv) _ (c .before .before .before .instruction .ensures) (c .before .before .before .before .if1 .taken) (c .before .before .before .before .before .before .before .before .pre .few) _ (c .before .answer2 .given .1)
@@ -52,13 +31,13 @@ read-code-spec =
     Inv-loop
     μ-loop
     loop-holds
-    instruction-requires
-    enum-known-answer
-    mul-code
-    array-set-from-code
-    add-index
-    loop-less
+    (λ c κs. search needs)
+    (λ c. search needs)
+    (λ c. search needs)
+    (λ c. search needs)
+    (λ c. search needs)
+    (λ c. search needs)
     loop-again
-    enum-known-answer-2
+    (λ c. search needs)
     returns
     returns-2)

@@ -6,15 +6,6 @@ use borrow.Author.Needs.{needs}
 use Rattle.routine.proofs.instructions.target_of.Statement.{statement}
 use Rattle.routine.proofs.instructions.target_of.Tie as tie
 
-enum-known-instruction : tie.Need-enum-known-instruction
-enum-known-instruction c = search needs
-
-enum-known-instruction-2 : tie.Need-enum-known-instruction-2
-enum-known-instruction-2 c = search needs
-
-enum-known-instruction-3 : tie.Need-enum-known-instruction-3
-enum-known-instruction-3 c = search needs
-
 returns : tie.Need-returns
 unfolding targetOption targetOf
 returns c = ap targetOf (sym (c .before .instruction .given .1))
@@ -35,9 +26,9 @@ pub target-of-spec : {M : Type 1} → statement M
 target-of-spec =
     tie.close
     (tie.spec
-    enum-known-instruction
-    enum-known-instruction-2
-    enum-known-instruction-3
+    (λ c. search needs)
+    (λ c. search needs)
+    (λ c. search needs)
     returns
     returns-2
     returns-3
