@@ -1,11 +1,14 @@
 // The check program: judges the routine of routine.bin under the policy of policy.bin, and prints the verdict.
+use limits::LEAST_WORKSPACE;
+use limits::MOST_BYTES;
 
 // The bytes of each file that can decide the answer, and one more.
 const POLICY: usize = 6189;
 
-const ROUTINE: usize = 65537;
+const ROUTINE: usize = MOST_BYTES + 1;
+
 // The workspace that document 01 asks for at least.
-const WORDS: usize = 16384;
+const WORDS: usize = LEAST_WORKSPACE;
 
 fn main() {
     let mut policy = [0u8; POLICY];

@@ -8,7 +8,7 @@ use lib.ListN.{length, take, length-take}
 use Rattle.model.specs.Word.{le32}
 use Rattle.model.specs.Runner.{Run, runOf}
 use Rattle.console.specs.Words.{wordsFrom}
-use Rattle.pcc_run.specs.Start.{budgetIn, registerWords, memoryWords, registersIn, memoryIn}
+use Rattle.pcc_run.specs.Start.{memoryAt, budgetIn, registerWords, memoryWords, registersIn, memoryIn}
 
 pub no-budget : (start : List ℕ) → length start < 4 → 0 ≡ budgetIn start
 unfolding budgetIn
@@ -26,13 +26,13 @@ counted xs n h = omega (arith, length-take n xs)
 pub ran : (policy routine start registers memory : List ℕ) (budget m n : ℕ) (r : Run)
     → r ≡ runOf policy routine registers memory budget
     → registers ≡ wordsFrom start 1 m → m ≡ registerWords start
-    → memory ≡ wordsFrom start 17 n → n ≡ memoryWords start
+    → memory ≡ wordsFrom start memoryAt n → n ≡ memoryWords start
     → budget ≡ budgetIn start
     → r .outcome ≡ runOf policy routine (registersIn start) (memoryIn start) (budgetIn start) .outcome
 unfolding registersIn memoryIn
 ran policy routine start registers memory budget m n r e p q u v b =
     ap (λ (x : Run). x .outcome) e
-    ∙ (λ j. runOf policy routine ((p ∙ ap (wordsFrom start 1) q) j) ((u ∙ ap (wordsFrom start 17) v) j) (b j) .outcome)
+    ∙ (λ j. runOf policy routine ((p ∙ ap (wordsFrom start 1) q) j) ((u ∙ ap (wordsFrom start memoryAt) v) j) (b j) .outcome)
 
 pub filled : (xs : List ℕ) (n m : ℕ) → n ≤ length xs → n ≡ m → length (take n xs) ≡ m
 filled xs n m h e = sym (counted xs n h) ∙ e

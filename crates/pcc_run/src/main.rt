@@ -1,17 +1,25 @@
 // The run program: runs the routine of routine.bin under the policy of policy.bin from the state of start.bin, and prints the answer.
+use limits::MOST_BYTES;
+use limits::MOST_MEMORY;
+use limits::REGISTERS;
 use model::Outcome;
 ghost use mathlib.Core.Path.{_≡_};
 ghost use Prim.Native.Nat.{_≤_, _-_, _/_, min};
 ghost use lib.ListN.{length};
 ghost use Rattle.model.specs.Runner.{runOf};
-ghost use Rattle.pcc_run.specs.Start.{budgetIn, registerWords, memoryWords, registersIn, memoryIn};
+ghost use Rattle.pcc_run.specs.Start.{mostStart, budgetIn, registerWords, memoryWords, registersIn, memoryIn};
 
 // The bytes of each file that can decide the answer, and one more.
 const POLICY: usize = 6189;
 
-const ROUTINE: usize = 65537;
+const ROUTINE: usize = MOST_BYTES + 1;
 
-const START: usize = 65608;
+const START: usize = 4 * (MEMORY_AT + MEMORY);
+
+// The words of memory that can decide the answer, and where the first of them stands in a start file, after the budget and the registers.
+const MEMORY: usize = MOST_MEMORY as usize + 1;
+
+const MEMORY_AT: usize = 1 + REGISTERS;
 
 // The first word of a start file, or 0 where there is none.
 fn budget(start: &[u8]) -> u32
@@ -50,20 +58,20 @@ fn run_on(
     ensures { λ r. ⌜ r ≡ runOf (now (policy .entry)) (now (routine .entry)) (registersIn (now (start .entry))) (memoryIn (now (start .entry))) (budgetIn (now (start .entry))) .outcome ⌝ }
 {
     console::words(start, 1, registers);
-    console::words(start, 17, memory);
+    console::words(start, MEMORY_AT, memory);
     loader::run(policy, routine, registers, memory, budget(start))
 }
 
 // The run from the state in a start file's bytes.
 fn run_start(policy: &[u8], routine: &[u8], start: &[u8]) -> Outcome
-    requires { ⌜ length (now start) ≤ 65608 ⌝ }
+    requires { ⌜ length (now start) ≤ mostStart ⌝ }
     ensures { λ r. ⌜ r ≡ runOf (now (policy .entry)) (now (routine .entry)) (registersIn (now (start .entry))) (memoryIn (now (start .entry))) (budgetIn (now (start .entry))) .outcome ⌝ }
 {
     let words = start.len() / 4;
-    let mut registers = [0u32; 16];
-    let mut memory = [0u32; 16385];
-    let held = rest(words, 1, 16);
-    let size = rest(words, 17, 16385);
+    let mut registers = [0u32; REGISTERS];
+    let mut memory = [0u32; MEMORY];
+    let held = rest(words, 1, REGISTERS);
+    let size = rest(words, MEMORY_AT, MEMORY);
     run_on(
         policy,
         routine,

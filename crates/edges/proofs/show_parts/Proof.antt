@@ -1,7 +1,7 @@
 use Rattle.io.proofs.Counting.{counts}
 use borrow.Author.Needs.{needs}
-use Rattle.samples.proofs.show_parts.Statement.{statement}
-use Rattle.samples.proofs.show_parts.Tie as tie
+use Rattle.edges.proofs.show_parts.Statement.{statement}
+use Rattle.edges.proofs.show_parts.Tie as tie
 
 slice-aggregate-show : tie.Need-slice-aggregate-show
 slice-aggregate-show c = counts _ _ (c .before .before .before .if1 .taken) .1

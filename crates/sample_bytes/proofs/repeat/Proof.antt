@@ -1,8 +1,8 @@
 use mathlib.Core.Path.{_≡_}
 use lib.ListN.{length}
 use borrow.Author.Needs.{needs}
-use Rattle.samples.proofs.build.repeat.Statement.{statement}
-use Rattle.samples.proofs.build.repeat.Tie as tie
+use Rattle.sample_bytes.proofs.repeat.Statement.{statement}
+use Rattle.sample_bytes.proofs.repeat.Tie as tie
 
 abbrev Inv-loop : tie.InvT-loop
 Inv-loop out₀ at x times left₀ next₀ out left next = length out ≡ length out₀
