@@ -7,7 +7,7 @@ use lib.ListN.{length}
 use borrow.Author.Tests.{ltb-true, leb-true}
 use Rattle.model.specs.Result.{value, _>>=_}
 use Rattle.model.specs.Field.{missing, fault, byteAt, halfAt, wordAt}
-use Rattle.model.specs.Expression.{Form, four-byte-constant, two-byte-variable, two-expressions, forms, Nodes, nodeOf, nodesAt, expressionAt}
+use Rattle.model.specs.Expression.{mostNodes, Form, four-byte-constant, two-byte-variable, two-expressions, forms, Nodes, nodeOf, nodesAt, expressionAt}
 use Rattle.model.specs.Derivation.{proofField, ruleAt}
 use Rattle.model.specs.declared.Refusal.{Refusal}
 use Rattle.model.specs.declared.Refusal.the-variants.{UnfitRule}
@@ -204,7 +204,7 @@ module _ (bytes : List ℕ) (end : ℕ) where
 
     pub expression-read : (p : ℕ) → Gives (λ (r : Term × ℕ). Read p (r .0) (r .1)) (expressionAt bytes end limit p)
     unfolding expressionAt
-    expression-read p = gives-then (nodes-read 31 31 p) λ r w. gives {a = (r .0, r .1)} w
+    expression-read p = gives-then (nodes-read mostNodes mostNodes p) λ r w. gives {a = (r .0, r .1)} w
 
 -- ---- rules
 abbrev FormatBounded : (n : ℕ) → Format → Type 0
