@@ -12,7 +12,6 @@ use Rattle.model.specs.declared.Comparison.{Comparison}
 use Rattle.model.specs.declared.Comparison.the-variants.{Equal}
 use Rattle.workspace.specs.Layout.{Same}
 use Rattle.terms.specs.Table.{place, termAt, Formed}
-use Rattle.claims.specs.Regions.{may}
 use Rattle.claims.specs.declared.Claim.{Claim}
 use Rattle.claims.specs.declared.Claim.the-variants.{Atom as AtomClaim}
 use Rattle.claims.specs.declared.Premise.{Premise}

@@ -1,9 +1,7 @@
 -- The policy's regions as words: base, size and rights of region j stand at 3 * j. Assumes nothing.
 use mathlib.Core.Path.{_≡_}
-use mathlib.Core.Bool.{Bool, _||_}
 use mathlib.Core.List.{List, _∷_, []}
 use Prim.Native.Nat.{ℕ, zero, suc, _+_, _*_, _^_, _<_, _≤_}
-use lib.Dec.{eqb}
 use lib.ListN.{length, getD}
 use Rattle.model.specs.Policy.{Policy, mostRegions}
 use Rattle.model.specs.Goals.{Goal}
@@ -29,10 +27,6 @@ pub record RegionWords (words : List ℕ) (count : ℕ) : Type 0 where
   pub long : length words ≡ regionWords
   pub few : count ≤ mostRegions
   pub small : (j : ℕ) → j < count → regionIn words j .base + regionIn words j .size < 2 ^ 32
-
--- a region has a right: 1 read, 2 write
-abbrev pub may : (right : ℕ) → Region → Bool
-may right r = eqb (r .rights) right || eqb (r .rights) 3
 
 -- where the policy's regions are these
 abbrev pub Over : List Region → Policy → Goal → Type 0

@@ -17,7 +17,8 @@ use Rattle.terms.specs.Table.{termAt, Formed, Put}
 use Rattle.claims.specs.Parts.{claimOf, Accesses}
 use Rattle.claims.specs.Plan.{premise, plan, Planned}
 use Rattle.memory_rules.specs.Access.{inRegion, regionAsks}
-use Rattle.claims.specs.Regions.{regionIn, regionsFrom, regionsOf, may, Over}
+use Rattle.rights.specs.Right.{grants}
+use Rattle.claims.specs.Regions.{regionIn, regionsFrom, regionsOf, Over}
 use Rattle.claims.specs.declared.Claim.{Claim}
 use Rattle.claims.specs.declared.Premise.{Premise}
 use Rattle.claims.specs.declared.Plan.{Plan}
@@ -46,11 +47,11 @@ module _ (words : List ℕ) {ws : List ℕ} {count j top : ℕ} (right : ℕ) {p
   unfolding regionPremises
   region-none t f h e = misfits (stays f) e (λ policy g o. stops _ (not-found misfit (ap (λ l. getElem? l j) o ∙ no-region-from words count 0 j h)))
 
-  pub region-without : (t : Term) → Formed ws top → j < count → may right (regionIn words j) ≡ false → Unfit top p → Planned (Over (regionsOf words count)) (inRegion right j t) ws ws top p
+  pub region-without : (t : Term) → Formed ws top → j < count → grants right (regionIn words j) ≡ false → Unfit top p → Planned (Over (regionsOf words count)) (inRegion right j t) ws ws top p
   unfolding regionPremises
   region-without t f h k e = misfits (stays f) e (λ policy g o. goes-on _ (is-found misfit (ap (λ l. getElem? l j) o ∙ is-region words h)) (check-fails _ _ k))
 
-  pub region-fits : {us vs : List ℕ} {t : ℕ} {x y : Premise} → t < top → j < count → may right (regionIn words j) ≡ true
+  pub region-fits : {us vs : List ℕ} {t : ℕ} {x y : Premise} → t < top → j < count → grants right (regionIn words j) ≡ true
       → Put ws us top (constant (regionIn words j .base)) → Put us vs (top + 1) (constant (regionIn words j .base + regionIn words j .size))
       → x ≡ premise AtMost top t → y ≡ premise Less t (top + 1) → p ≡ plan true 2 x y y (top + 2) → Planned (Over (regionsOf words count)) (inRegion right j (termAt ws t)) ws vs top p
   unfolding regionPremises

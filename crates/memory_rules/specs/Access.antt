@@ -8,12 +8,12 @@ use Rattle.model.specs.Atom.{Atom}
 use Rattle.model.specs.Policy.{Policy}
 use Rattle.model.specs.Goals.{Goal, Claim as Claimed}
 use Rattle.model.specs.Rule.{regionPremises}
-use Rattle.claims.specs.Regions.{may}
+use Rattle.rights.specs.Right.{grants}
 use Rattle.claims.specs.Parts.{rightOf, accessedOf}
 
 -- 22, 23: t lies in region j, which has the right
 abbrev pub inRegion : (right j : ℕ) → Term → Policy → Goal → Fit (List Atom)
-inRegion right j t policy g = regionPremises policy (may right) j t
+inRegion right j t policy g = regionPremises policy (grants right) j t
 
 -- the same of a claim that asks for the right
 unfoldable pub regionAsks : (right j : ℕ) → Claimed → Policy → Goal → Fit (List Atom)
