@@ -1,5 +1,4 @@
 // The checker: checks 1 to 12, and then the routine's evaluation.
-
 use annotations::reading::AnnotationsAnswer;
 use annotations::targets::TargetsAnswer;
 use header::HeaderAnswer;
@@ -15,8 +14,8 @@ use routine::instructions::CodeAnswer;
 use workspace::AREA_WORDS;
 ghost use mathlib.Core.Path.{_≡_};
 ghost use Prim.Native.Nat.{_≤_};
-ghost use lib.ListN.{length, replicate};
-ghost use Rattle.model.specs.Verdict.{leastWorkspace, refusing, checkOf, workspaceAfter};
+ghost use lib.ListN.{length};
+ghost use Rattle.model.specs.Verdict.{leastWorkspace, checkOf, workspaceAfter};
 ghost use Rattle.model.specs.Routine.{readRoutine};
 ghost use Rattle.model.specs.Property.{Safe};
 ghost use Rattle.workspace.specs.Layout.{areaWords};
@@ -25,34 +24,12 @@ ghost use Rattle.header.specs.Headers.{Fits};
 ghost use Rattle.linear.specs.Area.{Cleared};
 ghost use Rattle.checker.specs.Checks.{routineVerdict, AnnotationsChecked};
 
-// Makes every word zero.
-fn clear(words: &mut [u32])
-    ensures { λ _. ⌜ now (words .exit) ≡ replicate (length (now (words .entry))) 0 ⌝ }
-{
-    let mut i = 0;
-    while i < words.len() {
-        words[i] = 0;
-        i += 1;
-    }
-}
-
 // Makes the words zero in which linear forms are compared.
 fn clear_area(workspace: &mut [u32])
     requires { ⌜ areaWords ≤ length (now workspace) ⌝ }
     ensures { λ _. ⌜ Cleared (now (workspace .exit)) ⌝ }
 {
-    clear(&mut workspace[..AREA_WORDS]);
-}
-
-// The verdict where a check refuses before any goal.
-fn refused(refusal: Refusal) -> Verdict
-    ensures { λ r. ⌜ r ≡ refusing refusal 0 ⌝ }
-{
-    Verdict {
-        number: refusals::number(refusal),
-        place: refusals::place(refusal),
-        goals: 0,
-    }
+    workspace::clear(&mut workspace[..AREA_WORDS]);
 }
 
 // Checks 10, 11 and 12, and the evaluation of a routine that passes them; its code has been checked.
@@ -71,11 +48,11 @@ fn check_annotations(
     let mut places = [0u32; MOST_ANNOTATIONS];
     let read = annotations::reading::read_annotations(bytes, header, &mut indexes, &mut places);
     if let AnnotationsAnswer::Refused(refusal) = read {
-        return refused(refusal);
+        return refusals::refusing(refusal, 0);
     }
     let targets = annotations::targets::check_targets(bytes, header, &indexes);
     if let TargetsAnswer::Refused(refusal) = targets {
-        return refused(refusal);
+        return refusals::refusing(refusal, 0);
     }
     clear_area(workspace);
     let setting = Setting {
@@ -94,11 +71,11 @@ fn check_package(workspace: &mut [u32], conditions: &[u8], policy: Policy, bytes
 {
     let header = match header::read_header(bytes) {
         HeaderAnswer::Passed(header) => header,
-        HeaderAnswer::Refused(refusal) => return refused(refusal),
+        HeaderAnswer::Refused(refusal) => return refusals::refusing(refusal, 0),
     };
     let code = routine::instructions::check_code(bytes, header);
     if let CodeAnswer::Refused(refusal) = code {
-        return refused(refusal);
+        return refusals::refusing(refusal, 0);
     }
     check_annotations(workspace, conditions, policy, bytes, header)
 }
@@ -111,7 +88,7 @@ fn check_policy(workspace: &mut [u32], conditions: &[u8], bytes: &[u8]) -> Verdi
     let read = policy::read_policy(conditions);
     let answer = read.answer;
     if let PolicyAnswer::Refused(refusal) = answer {
-        return refused(refusal);
+        return refusals::refusing(refusal, 0);
     }
     let policy = read.policy;
     check_package(workspace, conditions, policy, bytes)
@@ -124,9 +101,9 @@ pub fn check(workspace: &mut [u32], policy: &[u8], bytes: &[u8]) -> Verdict
     ensures safe { λ r. ⌜ (r .number ≡ 0 → Safe (now (policy .entry)) (now (bytes .entry))) ⌝ }
 {
     if workspace.len() < LEAST_WORKSPACE {
-        return refused(Refusal::SmallWorkspace);
+        return refusals::refusing(Refusal::SmallWorkspace, 0);
     }
     let verdict = check_policy(workspace, policy, bytes);
-    clear(workspace);
+    workspace::clear(workspace);
     verdict
 }

@@ -12,21 +12,10 @@ ghost use mathlib.Core.Path.{_≡_};
 ghost use Rattle.model.specs.Policy.{Policy as ModelPolicy};
 ghost use Rattle.model.specs.Routine.{Routine};
 ghost use Rattle.model.specs.Goals.{traceOf};
-ghost use Rattle.model.specs.Verdict.{refusing, judge};
+ghost use Rattle.model.specs.Verdict.{judge};
 ghost use Rattle.blocks.specs.Starting.{Workspace};
 ghost use Rattle.moves.specs.Setting.{Settled, Stands};
 ghost use Rattle.evaluation.specs.Blocks.{verdictOf};
-
-// A refusal's number and place, and the goals derived by then.
-fn refused(refusal: Refusal, goals: usize) -> Verdict
-    ensures { λ r. ⌜ r ≡ refusing refusal goals ⌝ }
-{
-    Verdict {
-        number: refusals::number(refusal),
-        place: refusals::place(refusal),
-        goals,
-    }
-}
 
 // The answer once all blocks are evaluated: accepted, unless a goal was refused or bytes of the proof are left.
 fn answer(judged: Judged, size: usize) -> Verdict
@@ -41,9 +30,9 @@ fn answer(judged: Judged, size: usize) -> Verdict
                     goals: progress.goals,
                 };
             }
-            refused(Refusal::ProofLeft(progress.at), progress.goals)
+            refusals::refusing(Refusal::ProofLeft(progress.at), progress.goals)
         }
-        Judged::Refused(refusal, derived) => refused(refusal, derived),
+        Judged::Refused(refusal, derived) => refusals::refusing(refusal, derived),
     }
 }
 

@@ -1,7 +1,9 @@
-// The number and the place of each refusal.
+// The number and the place of each refusal, and the verdict that it makes.
 use model::Refusal;
+use model::Verdict;
 ghost use mathlib.Core.Path.{_≡_};
 ghost use Rattle.model.specs.Refusal.{numberOf, placeOf};
+ghost use Rattle.model.specs.Verdict.{refusing};
 
 // A refusal's number in document 01, and its place.
 struct Answer(u32, usize);
@@ -47,4 +49,15 @@ pub fn place(refusal: Refusal) -> usize
 {
     let answer = answer_of(refusal);
     answer.1
+}
+
+// The verdict of a refusal, with so many goals derived by then.
+pub fn refusing(refusal: Refusal, goals: usize) -> Verdict
+    ensures { λ r. ⌜ r ≡ refusing refusal goals ⌝ }
+{
+    Verdict {
+        number: number(refusal),
+        place: place(refusal),
+        goals,
+    }
 }

@@ -1,7 +1,10 @@
-// The layout of the lent workspace as constants of code: specs/Layout has the same places by name, and says what stands where.
+// The lent workspace: its layout as constants of code (specs/Layout has the same places by name, and says what stands where), and how it
+// is cleared.
 use limits::LEAST_WORKSPACE;
 use limits::MOST_ATOMS;
 use limits::REGISTERS;
+ghost use mathlib.Core.Path.{_≡_};
+ghost use lib.ListN.{length, replicate};
 
 // pathRoom: there is room for paths of so many instructions.
 const PATH_ROOM: usize = 512;
@@ -26,3 +29,14 @@ pub const HINT_COUNT: usize = 1024;
 
 // hintBase: where the hints begin.
 pub const HINTS: usize = LEAST_WORKSPACE - HINT_COUNT;
+
+// Makes every word zero.
+pub fn clear(words: &mut [u32])
+    ensures { λ _. ⌜ now (words .exit) ≡ replicate (length (now (words .entry))) 0 ⌝ }
+{
+    let mut i = 0;
+    while i < words.len() {
+        words[i] = 0;
+        i += 1;
+    }
+}

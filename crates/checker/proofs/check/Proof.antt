@@ -6,7 +6,7 @@ use Rattle.checker.proofs.check.Statement.{statement}
 use Rattle.checker.proofs.check.Tie as tie
 
 returns : tie.Need-returns
-returns c = laws.workspace-small _ _ (now (c .before .before .before .before .before .args .bytes)) (λ k. omega (arith, c .before .before .shared-slice-known2 .given k)) _ (c .before .if1 .taken) (c .refused .ensures)
+returns c = laws.workspace-small _ _ (now (c .before .before .before .before .before .args .bytes)) (λ k. omega (arith, c .before .before .shared-slice-known2 .given k)) _ (c .before .if1 .taken) (c .refusing .ensures)
 
 returns-2 : tie.Need-returns-2
 returns-2 c = laws.checked (now (c .before .before .before .before .before .before .before .before .before .before .before .before .args .workspace)) _ (now (c .before .before .before .before .before .before .before .before .before .before .before .before .args .bytes)) (λ k. omega (arith, c .before .before .before .before .before .before .before .before .before .shared-slice-known2 .given k)) _ (c .before .before .before .before .before .before .before .before .if1 .left) (c .before .before .before .before .before .before .check-policy .ensures) (c .before .before .before .before .before .before .check-policy .last .0) _ (c .before .before .before .before .before .before .check-policy .kept .0) (c .before .before .clear .ensures)

@@ -6,10 +6,10 @@ use Rattle.checker.proofs.check_annotations.Statement.{statement}
 use Rattle.checker.proofs.check_annotations.Tie as tie
 
 returns : tie.Need-returns
-returns c = laws.annotations-stop _ _ _ _ _ _ (c .before .before .before .before .before .before .read-annotations .ensures) _ (c .before .before .read .given .1) _ (c .refused .ensures)
+returns c = laws.annotations-stop _ _ _ _ _ _ (c .before .before .before .before .before .before .read-annotations .ensures) _ (c .before .before .read .given .1) _ (c .refusing .ensures)
 
 returns-2 : tie.Need-returns-2
-returns-2 c = laws.targets-stop _ _ _ _ _ _ (c .before .before .before .before .before .before .before .before .before .before .read-annotations .ensures) (c .before .before .before .before .before .before .enum-told .given .1) _ (c .before .before .before .before .check-targets .ensures) _ (c .before .before .targets .given .1) _ (c .refused2 .ensures)
+returns-2 c = laws.targets-stop _ _ _ _ _ _ (c .before .before .before .before .before .before .before .before .before .before .read-annotations .ensures) (c .before .before .before .before .before .before .enum-told .given .1) _ (c .before .before .before .before .check-targets .ensures) _ (c .before .before .targets .given .1) _ (c .refusing2 .ensures)
 
 evaluate-requires : tie.Need-evaluate-requires
 evaluate-requires c κs = (laws.settled _ _ _ _ _ _ _ _ (c .before .before .before .before .before .before .before .before .before .before .before .before .before .before .before .before .before .before .before .before .before .before .pre .1) (c .before .before .before .before .before .before .before .before .before .before .before .before .before .before .before .before .read-annotations .ensures) (c .before .before .before .before .before .before .before .before .before .before .before .before .enum-told .given .1) (c .before .before .before .proof-start .ensures), record { words = omega (arith, c .before .before .before .before .before .before .before .before .before .before .before .before .before .before .before .before .before .before .before .before .before .before .pre .0, c .before .before .before .before .before .before .clear-area .kept .0); cleared = c .before .before .before .before .before .before .clear-area .ensures })

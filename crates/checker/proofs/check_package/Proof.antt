@@ -5,13 +5,13 @@ use Rattle.checker.proofs.check_package.Statement.{statement}
 use Rattle.checker.proofs.check_package.Tie as tie
 
 returns : tie.Need-returns
-returns c = laws.header-stop _ _ _ (c .before .before .before .before .read-header .ensures) _ (c .before .before .refusal .given .1) _ (c .refused .ensures)
+returns c = laws.header-stop _ _ _ (c .before .before .before .before .read-header .ensures) _ (c .before .before .refusal .given .1) _ (c .refusing .ensures)
 
 check-code-requires : tie.Need-check-code-requires
 check-code-requires c κs = passed (c .before .before .before .read-header .ensures) (c .before .header .given .1) .1
 
 returns-2 : tie.Need-returns-2
-returns-2 c = laws.code-stop _ _ _ (c .before .before .before .before .before .before .before .before .read-header .ensures) _ (c .before .before .before .before .before .before .header .given .1) _ (c .before .before .before .before .check-code .ensures) _ (c .before .before .code .given .1) _ (c .refused2 .ensures)
+returns-2 c = laws.code-stop _ _ _ (c .before .before .before .before .before .before .before .before .read-header .ensures) _ (c .before .before .before .before .before .before .header .given .1) _ (c .before .before .before .before .check-code .ensures) _ (c .before .before .code .given .1) _ (c .refusing2 .ensures)
 
 check-annotations-requires : tie.Need-check-annotations-requires
 check-annotations-requires c κs = (c .before .before .before .before .before .before .before .before .before .before .before .pre .0, (c .before .before .before .before .before .before .before .before .before .before .before .pre .1, passed (c .before .before .before .before .before .before .before .read-header .ensures) (c .before .before .before .before .before .header .given .1) .1))

@@ -4,7 +4,7 @@ use Rattle.checker.proofs.check_policy.Statement.{statement}
 use Rattle.checker.proofs.check_policy.Tie as tie
 
 returns : tie.Need-returns
-returns c = laws.policy-stop _ (c .before .before .before .before .before .before .before .before .pre) _ _ _ (c .before .before .before .before .read-policy .ensures) _ (c .before .before .answer .given .1) _ (c .refused .ensures)
+returns c = laws.policy-stop _ (c .before .before .before .before .before .before .before .before .pre) _ _ _ (c .before .before .before .before .read-policy .ensures) _ (c .before .before .answer .given .1) _ (c .refusing .ensures)
 
 check-package-requires : tie.Need-check-package-requires
 check-package-requires c κs = (c .before .before .before .before .before .before .before .before .pre, c .before .before .before .before .read-policy .ensures .passed (c .before .before .enum-told .given .1))

@@ -2,10 +2,10 @@ use borrow.Author.Needs.{needs}
 use mathlib.Core.Path.{_≡_}
 use Prim.Native.Nat.{_-_}
 use lib.ListN.{length}
-use Rattle.checker.proofs.Fills.{Filled}
-use Rattle.checker.proofs.Fills as fills
-use Rattle.checker.proofs.clear.Statement.{statement}
-use Rattle.checker.proofs.clear.Tie as tie
+use Rattle.workspace.proofs.Fills.{Filled}
+use Rattle.workspace.proofs.Fills as fills
+use Rattle.workspace.proofs.clear.Statement.{statement}
+use Rattle.workspace.proofs.clear.Tie as tie
 
 abbrev Inv-loop : tie.InvT-loop
 Inv-loop words₀ i₀ words i = Filled words₀ words i
