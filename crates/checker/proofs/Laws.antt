@@ -38,7 +38,7 @@ use Rattle.annotations.specs.declared.targets.TargetsAnswer.the-variants as tar
 use Rattle.annotations.specs.Annotations.{annotationsAt, AnnotationsMet}
 use Rattle.annotations.specs.Targets.{targetsResult, TargetsMet}
 use Rattle.annotations.proofs.Facts.{annotations-passed, annotations-refused}
-use Rattle.moves.specs.Setting.{Settled, Stands}
+use Rattle.jumps.specs.Setting.{Settled, Stands}
 use Rattle.checker.specs.Checks.{routineVerdict, routineFrom, AnnotationsChecked}
 
 -- the verdict where reading a routine stops

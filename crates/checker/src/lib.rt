@@ -2,12 +2,12 @@
 use annotations::reading::AnnotationsAnswer;
 use annotations::targets::TargetsAnswer;
 use header::HeaderAnswer;
+use jumps::Setting;
 use limits::LEAST_WORKSPACE;
 use limits::MOST_ANNOTATIONS;
 use model::Header;
 use model::Refusal;
 use model::Verdict;
-use moves::Setting;
 use policy::Policy;
 use policy::PolicyAnswer;
 use routine::instructions::CodeAnswer;

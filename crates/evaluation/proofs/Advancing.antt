@@ -20,13 +20,14 @@ use Rattle.goals.specs.Judging.{Reached}
 use Rattle.paths.specs.Walking.{pathOf, PathIn}
 use Rattle.paths.specs.declared.Path.{Path}
 use Rattle.goals.specs.declared.Progress.{Progress}
-use Rattle.moves.specs.declared.Setting.{Setting}
+use Rattle.jumps.specs.declared.Setting.{Setting}
 use Rattle.moves.specs.declared.Moved.{Moved}
-use Rattle.moves.specs.Setting.{Stands, Fixed, Tables, TablesStand}
-use Rattle.moves.specs.Moves.{MoveJudged, Moves, Branches, Assigns, Accesses}
+use Rattle.jumps.specs.Setting.{Stands, Fixed, Tables, TablesStand}
+use Rattle.jumps.specs.Jumps.{Branches}
+use Rattle.moves.specs.Moves.{MoveJudged, Moves, Assigns, Accesses}
 use Rattle.evaluation.specs.Walks.{Advances}
 use Rattle.paths.proofs.Kept.{register-term}
-use Rattle.moves.proofs.Standing.{regions-stand, postcondition-stands}
+use Rattle.jumps.proofs.Standing.{regions-stand, postcondition-stands}
 
 -- an instruction's fields, once its kind is known
 pub formed-as : (n : ℕ) {x y : Instruction} → Formed n x → x ≡ y → Formed n y

@@ -32,18 +32,19 @@ use Rattle.goals.specs.declared.Progress.{Progress}
 use Rattle.goals.specs.declared.Judged.{Judged}
 use Rattle.goals.specs.declared.Judged.the-variants.{Next, Refused}
 use Rattle.blocks.specs.declared.Block.{Block}
-use Rattle.moves.specs.declared.Setting.{Setting}
-use Rattle.moves.specs.declared.Arrived.{Arrived}
-use Rattle.moves.specs.declared.Arrived.the-variants.{At, Nowhere}
-use Rattle.moves.specs.Setting.{Stands, Fixed, Tables, TablesStand}
-use Rattle.moves.specs.Standing.{AnnotationStands}
-use Rattle.moves.specs.Moves.{RoomFor, ArrivedAs, ReachedThere, Arrives}
+use Rattle.jumps.specs.declared.Setting.{Setting}
+use Rattle.jumps.specs.declared.Arrived.{Arrived}
+use Rattle.jumps.specs.declared.Arrived.the-variants.{At, Nowhere}
+use Rattle.jumps.specs.Setting.{Stands, Fixed, Tables, TablesStand}
+use Rattle.jumps.specs.Standing.{AnnotationStands}
+use Rattle.jumps.specs.Jumps.{ArrivedAs, ReachedThere, Arrives}
+use Rattle.moves.specs.Moves.{RoomFor}
 use Rattle.evaluation.specs.Walks.{Walks}
 use Rattle.evaluation.specs.Blocks.{TraceJudged, verdictOf}
 use Rattle.goals.proofs.Judging.{goals-end, trace-end, trace-stopped, trace-both, trace-whole}
 use Rattle.paths.proofs.Kept.{kept-same, node-equal, node-held, path-equal}
 use Rattle.moves.proofs.PathLaws.{room-kept}
-use Rattle.moves.proofs.Standing.{limit-stands, precondition-stands, code-long, placed-stands, index-at, annotation-at, annotations-long}
+use Rattle.jumps.proofs.Standing.{limit-stands, precondition-stands, code-long, placed-stands, index-at, annotation-at, annotations-long}
 use Rattle.evaluation.proofs.Advancing.{fixed-tables, fixed-stand}
 
 -- words that keep the coefficients

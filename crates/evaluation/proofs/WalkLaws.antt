@@ -30,19 +30,20 @@ use Rattle.paths.specs.declared.Path.{Path}
 use Rattle.goals.specs.declared.Progress.{Progress}
 use Rattle.goals.specs.declared.Judged.{Judged}
 use Rattle.goals.specs.declared.Judged.the-variants.{Next as Judged-on, Refused as Judged-refused}
-use Rattle.moves.specs.declared.Setting.{Setting}
+use Rattle.jumps.specs.declared.Setting.{Setting}
 use Rattle.moves.specs.declared.Moved.{Moved}
 use Rattle.moves.specs.declared.MovedAnswer.{MovedAnswer}
 use Rattle.moves.specs.declared.MovedAnswer.the-variants.{On, Ended, Refused}
-use Rattle.moves.specs.declared.Arrived.{Arrived}
-use Rattle.moves.specs.declared.Arrived.the-variants.{At, Nowhere}
-use Rattle.moves.specs.Setting.{Stands, Fixed, Tables, TablesStand}
-use Rattle.moves.specs.Moves.{RoomFor, Advanced, Leads, MoveJudged, ArrivedAs, ReachedThere, Arrives}
+use Rattle.jumps.specs.declared.Arrived.{Arrived}
+use Rattle.jumps.specs.declared.Arrived.the-variants.{At, Nowhere}
+use Rattle.jumps.specs.Setting.{Stands, Fixed, Tables, TablesStand}
+use Rattle.jumps.specs.Jumps.{ArrivedAs, ReachedThere, Arrives}
+use Rattle.moves.specs.Moves.{RoomFor, Advanced, Leads, MoveJudged}
 use Rattle.evaluation.specs.Walks.{Advances, Fetched, Walks}
-use Rattle.moves.proofs.Moving.{moveAt, walk-past, walk-refused, walk-ended, walk-onward, walk-arrived}
+use Rattle.jumps.proofs.Walking.{moveAt, walk-past, walk-refused, walk-ended, walk-onward, walk-arrived}
 use Rattle.paths.proofs.Kept.{kept-same, node-equal, node-held, node-wider, path-equal}
 use Rattle.moves.proofs.PathLaws.{room-kept}
-use Rattle.moves.proofs.Standing.{code-long}
+use Rattle.jumps.proofs.Standing.{code-long}
 use Rattle.evaluation.proofs.Advancing.{fixed-tables, fixed-stand}
 
 -- ---- the instruction at an index

@@ -11,11 +11,11 @@ use Rattle.model.specs.declared.Refusal.the-variants.{ProofLeft}
 use Rattle.model.specs.declared.Verdict.{Verdict}
 use Rattle.linear.specs.Area.{Cleared}
 use Rattle.goals.specs.Judging.{ReachedAfter, JudgesTrace}
-use Rattle.moves.specs.Setting.{Stands}
+use Rattle.jumps.specs.Setting.{Stands}
 use Rattle.goals.specs.declared.Progress.{Progress}
 use Rattle.goals.specs.declared.Judged.{Judged}
 use Rattle.goals.specs.declared.Judged.the-variants.{Next, Refused}
-use Rattle.moves.specs.declared.Setting.{Setting}
+use Rattle.jumps.specs.declared.Setting.{Setting}
 
 -- the trace is judged, and the words us are left for the next block
 pub record TraceJudged (us bytes policyBytes places : List ℕ) (setting : Setting) (trace : Policy → Routine → Trace) (p : Progress) (r : Judged) : Type 0 where

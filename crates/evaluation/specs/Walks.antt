@@ -19,8 +19,8 @@ use Rattle.paths.specs.Walking.{pathOf}
 use Rattle.paths.specs.declared.Path.{Path}
 use Rattle.goals.specs.declared.Progress.{Progress}
 use Rattle.goals.specs.declared.Judged.{Judged}
-use Rattle.moves.specs.Setting.{Stands}
-use Rattle.moves.specs.declared.Setting.{Setting}
+use Rattle.jumps.specs.Setting.{Stands}
+use Rattle.jumps.specs.declared.Setting.{Setting}
 use Rattle.moves.specs.declared.Moved.{Moved}
 use Rattle.moves.specs.Moves.{Moves}
 

@@ -2,16 +2,15 @@
 use crate::walks;
 use goals::Judged;
 use goals::Progress;
-use moves::Arrived;
-use moves::Setting;
-use moves::jumps;
+use jumps::Arrived;
+use jumps::Setting;
 ghost use Prim.Native.Nat.{_<_};
 ghost use lib.ListN.{getD};
 ghost use Rattle.model.specs.Goals.{entryBlock, annotationBlock, annotationBlocks, traceOf};
 ghost use Rattle.annotations.specs.Annotations.{annotationAtPlace};
 ghost use Rattle.goals.specs.Judging.{Reached};
 ghost use Rattle.blocks.specs.Starting.{Workspace};
-ghost use Rattle.moves.specs.Setting.{Fixed};
+ghost use Rattle.jumps.specs.Setting.{Fixed};
 ghost use Rattle.evaluation.specs.Blocks.{TraceJudged};
 
 // The block at instruction 0, which ends at once where 0 is annotated.

@@ -4,17 +4,17 @@ pub mod walks;
 
 use goals::Judged;
 use goals::Progress;
+use jumps::Setting;
+use jumps::regions;
 use model::Refusal;
 use model::Verdict;
-use moves::Setting;
-use moves::regions;
 ghost use mathlib.Core.Path.{_≡_};
 ghost use Rattle.model.specs.Policy.{Policy as ModelPolicy};
 ghost use Rattle.model.specs.Routine.{Routine};
 ghost use Rattle.model.specs.Goals.{traceOf};
 ghost use Rattle.model.specs.Verdict.{judge};
 ghost use Rattle.blocks.specs.Starting.{Workspace};
-ghost use Rattle.moves.specs.Setting.{Settled, Stands};
+ghost use Rattle.jumps.specs.Setting.{Settled, Stands};
 ghost use Rattle.evaluation.specs.Blocks.{verdictOf};
 
 // The answer once all blocks are evaluated: accepted, unless a goal was refused or bytes of the proof are left.

@@ -1,18 +1,17 @@
 // The walk along a path, instruction by instruction.
 use goals::Judged;
 use goals::Progress;
+use jumps::Arrived;
+use jumps::Setting;
 use model::Comparison;
 use model::Header;
 use model::Instruction;
 use model::Refusal;
-use moves::Arrived;
 use moves::Moved;
 use moves::MovedAnswer;
-use moves::Setting;
 use moves::accesses;
 use moves::assignments;
 use moves::assignments::Operation;
-use moves::jumps;
 use paths::Path;
 use routine::instructions;
 use routine::instructions::InstructionAnswer;
@@ -23,7 +22,7 @@ ghost use Rattle.header.specs.Headers.{Fits};
 ghost use Rattle.routine.specs.Code.{Formed};
 ghost use Rattle.goals.specs.Judging.{Reached};
 ghost use Rattle.paths.specs.Walking.{NodeIn};
-ghost use Rattle.moves.specs.Setting.{Fixed};
+ghost use Rattle.jumps.specs.Setting.{Fixed};
 ghost use Rattle.moves.specs.Moves.{RoomFor};
 ghost use Rattle.evaluation.specs.Walks.{Fetched, Advances, Walks};
 

@@ -1,40 +1,31 @@
 -- What running one instruction of a path owes. Assumes nothing.
 use mathlib.Core.Path.{_≡_}
 use mathlib.Core.Bool.{Bool, true, false}
-use mathlib.Core.Option.{Option, none, some}
 use mathlib.Core.List.{List}
 use Prim.Native.Nat.{ℕ, _+_, _*_, _≤_}
-use lib.ListN.{length, getD}
+use lib.ListN.{length}
 use Rattle.model.specs.Term.{Term, sum, difference}
 use Rattle.model.specs.Policy.{Policy}
 use Rattle.model.specs.Package.{mostInstructions}
-use Rattle.model.specs.Annotation.{Annotation, annotationAt}
+use Rattle.model.specs.Annotation.{annotationAt}
 use Rattle.model.specs.Routine.{Routine}
-use Rattle.model.specs.Goals.{Path as ModelPath, Trace, append, Move, arrival, assign, landing, tracing, onward, loading, branch}
+use Rattle.model.specs.Goals.{Path as ModelPath, Trace, append, Move, assign, landing, tracing, onward, loading}
 use Rattle.model.specs.Verdict.{leastWorkspace, refusing, judge}
 use Rattle.model.specs.declared.Region.{Region}
-use Rattle.model.specs.declared.Comparison.{Comparison}
-use Rattle.model.specs.declared.Comparison.the-variants.{Equal, Unequal, Less, AtMost}
 use Rattle.model.specs.declared.Verdict.{Verdict}
 use Rattle.model.specs.declared.Refusal.the-variants.{LargeTerm}
 use Rattle.workspace.specs.Layout.{mostAssumptions, mostTableNodes, Same, mostVariables}
 use Rattle.terms.specs.Table.{termAt, place}
-use Rattle.assumptions.specs.Area.{atomIn}
-use Rattle.assumptions.specs.declared.Assumption.{Assumption}
-use Rattle.goals.specs.Judging.{Reached, ReachedAfter, Judges}
+use Rattle.goals.specs.Judging.{Reached}
 use Rattle.paths.specs.Walking.{pathOf, raisedTo, NodeIn, PathIn, steppedTo, writtenTo, Kept}
 use Rattle.goals.specs.Room.{goalRoom}
 use Rattle.paths.specs.declared.Path.{Path}
 use Rattle.goals.specs.declared.Progress.{Progress}
-use Rattle.goals.specs.declared.Judged.{Judged}
-use Rattle.goals.specs.declared.Judged.the-variants.{Next as JudgedNext, Refused as JudgedRefused}
 use Rattle.moves.specs.declared.assignments.Operation.{Operation}
 use Rattle.moves.specs.declared.assignments.Operation.the-variants.{Add, Subtract}
 use Rattle.moves.specs.declared.Moved.{Moved}
 use Rattle.moves.specs.declared.MovedAnswer.{MovedAnswer}
 use Rattle.moves.specs.declared.MovedAnswer.the-variants.{On, Ended, Refused}
-use Rattle.moves.specs.declared.Arrived.{Arrived}
-use Rattle.moves.specs.declared.Arrived.the-variants.{At, Nowhere}
 
 -- ---- room
 -- the path is in the words, with room for so many instructions
@@ -104,20 +95,6 @@ abbrev pub combined : Operation → Term → Term → Term
 combined Add s t = sum s t
 combined Subtract s t = difference s t
 
--- the comparison that holds where another does not
-abbrev pub oppositeOf : Comparison → (left right : ℕ) → Assumption
-oppositeOf Equal l r = record { kind = Unequal; left = l; right = r }
-oppositeOf Unequal l r = record { kind = Equal; left = l; right = r }
-oppositeOf Less l r = record { kind = AtMost; left = r; right = l }
-oppositeOf AtMost l r = record { kind = Less; left = r; right = l }
-
--- what a branch by a comparison of registers a and b owes
-abbrev pub Branches : (ws us bytes : List ℕ) → (Policy → Routine → Type 0) → (credit : Term) → Path → Comparison → (a b target : ℕ) → Progress → Moved → Type 0
-Branches ws us bytes Where credit path kind a b target p r =
-    let x = getD (path .registers) a 0 in
-    let y = getD (path .registers) b 0 in
-    Moves ws us bytes Where credit (λ policy routine. branch policy routine credit (pathOf ws path) target (atomIn ws (record { kind = kind; left = x; right = y })) (atomIn ws (oppositeOf kind x y))) path p r
-
 -- an assignment goes by neither policy, routine nor credit
 abbrev pub Anywhere : Policy → Routine → Type 0
 Anywhere policy routine = Unit {0}
@@ -135,24 +112,3 @@ pub record Loads (ws us : List ℕ) (path : Path) (d : ℕ) (p : Progress) (r : 
   pub means : pathOf us (r .path) ≡ onward (loading (pathOf ws path) d)
   pub advanced : Advanced us path (r .path)
   pub same : Same 0 (place (path .top)) ws us
-
--- ---- arrivals
--- what comes of a path's goals, as an end of the path
-abbrev pub endedAs : Judged → MovedAnswer
-endedAs (JudgedNext q) = Ended q
-endedAs (JudgedRefused x derived) = Refused x derived
-
--- the goals of the annotation, if there is one
-abbrev pub ArrivedAs : (bytes : List ℕ) → Policy → (s : ModelPath) (credit : Term) → Option Annotation → Progress → Arrived → Type 0
-ArrivedAs bytes policy s credit note p (At r) = (a : Annotation) × (note ≡ some a) × Judges bytes policy (arrival s credit a) p r
-ArrivedAs bytes policy s credit note p Nowhere = note ≡ none
-
-abbrev pub ReachedThere : List ℕ → Arrived → Type 0
-ReachedThere bytes (At r) = ReachedAfter bytes r
-ReachedThere bytes Nowhere = Unit {0}
-
-pub record Arrives (ws us bytes : List ℕ) (Where : Policy → Routine → Type 0) (credit : Term) (path : Path) (p : Progress) (r : Arrived) : Type 0 where
-  pub judged : (policy : Policy) (routine : Routine) → Where policy routine
-      → ArrivedAs bytes policy (pathOf ws path) credit (annotationAt (routine .annotations) (path .counter)) p r
-  pub kept : Same 0 (place (path .top)) ws us
-  pub reached : ReachedThere bytes r

@@ -1,7 +1,7 @@
 use borrow.Author.Needs.{needs}
 use mathlib.Core.Path.{refl}
 use Rattle.evaluation.proofs.BlockLaws.{whole-answer}
-use Rattle.moves.proofs.RegionLaws.{all-fixed, start-reached}
+use Rattle.jumps.proofs.RegionLaws.{all-fixed, start-reached}
 use Rattle.evaluation.proofs.evaluate.Statement.{statement}
 use Rattle.evaluation.proofs.evaluate.Tie as tie
 

@@ -8,7 +8,7 @@ use borrow.Fn.PlainCycle.{Measures, is, falls, and}
 use Rattle.evaluation.proofs.walks.walk.Reads as it
 use Rattle.evaluation.proofs.walks.walk.Kinds as kinds
 use Rattle.evaluation.proofs.walks.+walk.Lts-walk as lts
-use Rattle.moves.proofs.jumps.arrive.Reads as arrive-reads
+use Rattle.jumps.proofs.arrive.Reads as arrive-reads
 use Rattle.evaluation.proofs.walks.advance.Reads as advance-reads
 use Rattle.evaluation.proofs.walks.fetch.Reads as fetch-reads
 use Rattle.evaluation.proofs.walks.+walk.{statement}

@@ -40,17 +40,19 @@ use Rattle.paths.specs.declared.Path.{Path}
 use Rattle.goals.specs.declared.Progress.{Progress}
 use Rattle.goals.specs.declared.Judged.{Judged}
 use Rattle.goals.specs.declared.Judged.the-variants.{Next as Judged-on, Refused as Judged-refused}
-use Rattle.moves.specs.declared.Setting.{Setting}
+use Rattle.jumps.specs.declared.Setting.{Setting}
 use Rattle.moves.specs.declared.Moved.{Moved}
 use Rattle.moves.specs.declared.MovedAnswer.the-variants.{On, Ended, Refused}
-use Rattle.moves.specs.declared.Arrived.{Arrived}
-use Rattle.moves.specs.declared.Arrived.the-variants.{At, Nowhere}
-use Rattle.moves.specs.Setting.{Tables, TablesStand}
-use Rattle.moves.specs.Moves.{oppositeOf, RoomFor, Leads, MoveJudged, Moves, endedAs, ArrivedAs, ReachedThere, Arrives}
-use Rattle.moves.proofs.Moving.{move-on, move-stopped, move-ended, move-refused}
+use Rattle.jumps.specs.declared.Arrived.{Arrived}
+use Rattle.jumps.specs.declared.Arrived.the-variants.{At, Nowhere}
+use Rattle.jumps.specs.Setting.{Tables, TablesStand}
+use Rattle.jumps.specs.Jumps.{oppositeOf, endedAs, ArrivedAs, ReachedThere, Arrives}
+use Rattle.moves.specs.Moves.{RoomFor, Leads, MoveJudged, Moves}
+use Rattle.moves.proofs.Moving.{move-on, move-stopped, move-refused}
+use Rattle.jumps.proofs.Walking.{move-ended}
 use Rattle.paths.proofs.Kept.{kept-same, kept-then, node-equal, node-held, node-wider, path-equal}
 use Rattle.moves.proofs.PathLaws.{path-stepped, room-kept}
-use Rattle.moves.proofs.Standing.{placed-stands, found-inside, found-there, found-nowhere}
+use Rattle.jumps.proofs.Standing.{placed-stands, found-inside, found-there, found-nowhere}
 
 -- ---- arrivals
 module _ {bytes regions indexes places : List ℕ} {setting : Setting} (tables : Tables bytes regions indexes places setting) (x : ℕ) {found : Found} (e : found ≡ positionFrom (take (setting .header .annotations) indexes) x 0) where

@@ -12,7 +12,7 @@ use Rattle.header.specs.Headers.{Fits}
 use Rattle.annotations.specs.Annotations.{annotationsAt, Tabled}
 use Rattle.policy.specs.Policy.{policyOf, noRegion, Checked}
 use Rattle.claims.specs.Regions.{regionIn, regionsOf, RegionWords, regionWords}
-use Rattle.moves.specs.declared.Setting.{Setting}
+use Rattle.jumps.specs.declared.Setting.{Setting}
 
 -- the policy and the header have passed their checks, and the tables hold the annotations
 pub record Settled (bytes policyBytes indexes places : List ℕ) (setting : Setting) : Type 0 where

@@ -1,9 +1,9 @@
 use native.Mathlib.Omega.{arith}
 use borrow.Author.Needs.{needs}
-use Rattle.moves.proofs.Jumping.{place-inside, arrival-asks, arrived-at, arrived-nowhere}
+use Rattle.jumps.proofs.Jumping.{place-inside, arrival-asks, arrived-at, arrived-nowhere}
 use mathlib.Core.Path.{refl}
-use Rattle.moves.proofs.jumps.arrive.Statement.{statement}
-use Rattle.moves.proofs.jumps.arrive.Tie as tie
+use Rattle.jumps.proofs.arrive.Statement.{statement}
+use Rattle.jumps.proofs.arrive.Tie as tie
 
 returns : tie.Need-returns
 returns c = arrived-nowhere (c .before .before .before .before .before .before .before .before .before .before .pre .0) _ (c .before .before .position .ensures) refl (c .enum-told .given .1)

@@ -30,9 +30,9 @@ use Rattle.annotations.specs.declared.search.Found.{Found}
 use Rattle.annotations.specs.declared.search.Found.the-variants.{At, Nothing}
 use Rattle.annotations.proofs.Searches.{found-annotation, no-annotation}
 use Rattle.policy.specs.Policy.{policyOf}
-use Rattle.moves.specs.declared.Setting.{Setting}
-use Rattle.moves.specs.Setting.{Settled, Stands}
-use Rattle.moves.specs.Standing.{AnnotationStands}
+use Rattle.jumps.specs.declared.Setting.{Setting}
+use Rattle.jumps.specs.Setting.{Settled, Stands}
+use Rattle.jumps.specs.Standing.{AnnotationStands}
 
 -- ---- an annotation that was read
 byte-read : (bytes : List ℕ) (end p : ℕ) {x : ℕ} → byteAt bytes end p ≡ value x → (p + 1 ≤ end) × (getD bytes p 0 ≡ x)

@@ -1,7 +1,7 @@
 use borrow.Author.Needs.{needs}
-use Rattle.moves.proofs.Jumping.{room-going, return-ended}
-use Rattle.moves.proofs.jumps.return_from.Statement.{statement}
-use Rattle.moves.proofs.jumps.return_from.Tie as tie
+use Rattle.jumps.proofs.Jumping.{room-going, return-ended}
+use Rattle.jumps.proofs.return_from.Statement.{statement}
+use Rattle.jumps.proofs.return_from.Tie as tie
 
 returning-requires : tie.Need-returning-requires
 returning-requires c κs = (room-going (c .before .before .before .before .before .pre .1 .0) (c .before .before .before .before .before .pre .0) (c .before .before .before .before .before .pre .1 .1 .1), c .before .before .before .before .before .pre .1 .1 .0)

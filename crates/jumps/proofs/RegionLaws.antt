@@ -16,8 +16,8 @@ use Rattle.policy.specs.declared.Policy.{Policy}
 use Rattle.policy.specs.Policy.{noRegion, Checked}
 use Rattle.claims.specs.Regions.{regionIn, regionsFrom, regionsOf, RegionWords, regionWords}
 use Rattle.goals.specs.Judging.{Reached}
-use Rattle.moves.specs.declared.Setting.{Setting}
-use Rattle.moves.specs.Setting.{Settled, Fixed, Written}
+use Rattle.jumps.specs.declared.Setting.{Setting}
+use Rattle.jumps.specs.Setting.{Settled, Fixed, Written}
 
 -- ---- one region more
 module _ {regions : List Region} {words : List ℕ} {j : ℕ} (w : Written regions words j) (h : j < mostRegions) where

@@ -1,8 +1,6 @@
-// Arrivals at annotations, jumps, branches and returns.
-use crate::Arrived;
-use crate::Moved;
-use crate::MovedAnswer;
-use crate::Setting;
+// What a jump, a branch or a return does to a path of a block, and arrivals at annotations.
+pub mod regions;
+
 use annotations::search;
 use annotations::search::Found;
 use assumptions::Assumption;
@@ -10,8 +8,12 @@ use goals;
 use goals::Judged;
 use goals::Progress;
 use model::Comparison;
+use model::Header;
 use model::Refusal;
+use moves::Moved;
+use moves::MovedAnswer;
 use paths::Path;
+use policy::Policy;
 ghost use mathlib.Core.Path.{_≡_};
 ghost use Prim.Native.Nat.{ℕ, _≤_, _<_};
 ghost use lib.ListN.{length};
@@ -24,8 +26,22 @@ ghost use Rattle.claims.specs.Regions.{regionsOf, RegionWords};
 ghost use Rattle.goals.specs.Judging.{Reached};
 ghost use Rattle.paths.specs.Walking.{pathOf, NodeIn};
 ghost use Rattle.goals.specs.Room.{Going, goalRoom};
-ghost use Rattle.moves.specs.Setting.{Tables, TablesStand};
-ghost use Rattle.moves.specs.Moves.{endedAs, oppositeOf, RoomFor, Moves, Branches, Arrives};
+ghost use Rattle.moves.specs.Moves.{RoomFor, Moves};
+ghost use Rattle.jumps.specs.Setting.{Tables, TablesStand};
+ghost use Rattle.jumps.specs.Jumps.{endedAs, oppositeOf, Branches, Arrives};
+
+// What stays fixed: the policy, the package's header, and where the proof starts.
+pub struct Setting {
+    pub policy: Policy,
+    pub header: Header,
+    pub end: usize,
+}
+
+// What comes of a path's arrival at an index: its goals, if the index is annotated.
+pub enum Arrived {
+    At(Judged),
+    Nowhere,
+}
 
 // The goals of a path's arrival at its counter, if that is annotated.
 pub fn arrive(

@@ -1,8 +1,8 @@
 use native.Mathlib.Omega.{arith}
 use borrow.Author.Needs.{needs}
-use Rattle.moves.proofs.Jumping.{there-asks, jump-ended, jump-refused}
-use Rattle.moves.proofs.jumps.jump_to.Statement.{statement}
-use Rattle.moves.proofs.jumps.jump_to.Tie as tie
+use Rattle.jumps.proofs.Jumping.{there-asks, jump-ended, jump-refused}
+use Rattle.jumps.proofs.jump_to.Statement.{statement}
+use Rattle.jumps.proofs.jump_to.Tie as tie
 
 stepped-requires : tie.Need-stepped-requires
 stepped-requires c κs = omega (arith, c .before .before .before .before .before .before .pre .1 .0 .run)

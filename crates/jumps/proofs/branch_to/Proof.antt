@@ -1,11 +1,11 @@
 use native.Mathlib.Omega.{arith}
 use borrow.Author.Needs.{needs}
-use Rattle.moves.proofs.jumps.branch_to.Statement.{statement}
-use Rattle.moves.proofs.jumps.branch_to.Tie as tie
+use Rattle.jumps.proofs.branch_to.Statement.{statement}
+use Rattle.jumps.proofs.branch_to.Tie as tie
 use mathlib.Core.Path.{_∙_}
 use Rattle.moves.proofs.PathLaws.{room-kept}
 use Rattle.moves.proofs.Assigning.{pair-below}
-use Rattle.moves.proofs.Jumping.{opposite-below, assume-asks, edge-asks, taken-kept, branch-nowhere, branch-stopped, branch-on}
+use Rattle.jumps.proofs.Jumping.{opposite-below, assume-asks, edge-asks, taken-kept, branch-nowhere, branch-stopped, branch-on}
 
 assuming-requires : tie.Need-assuming-requires
 assuming-requires c κs = assume-asks (c .before .before .before .before .before .before .before .before .before .before .pre .1 .0) (c .before .stepped .ensures) (pair-below (c .before .before .before .before .before .before .before .before .before .before .pre .1 .1 .1 .1 .1 .0) (c .before .before .before .before .before .before .before .before .before .before .pre .1 .1 .1 .1 .1 .1) (c .before .before .before .before .node .ensures) (c .before .before .before .node2 .ensures) (c .before .before .before .before .before .before .before .before .before .before .pre .1 .0 .path-in))

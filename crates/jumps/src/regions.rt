@@ -3,7 +3,7 @@ use claims::REGION_WORDS;
 use policy::Policy;
 ghost use Prim.Native.Nat.{_≤_};
 ghost use Rattle.model.specs.Policy.{mostRegions};
-ghost use Rattle.moves.specs.Setting.{Written};
+ghost use Rattle.jumps.specs.Setting.{Written};
 
 // Base, size and rights of each region: those of region j stand at 3 * j.
 pub fn region_words(policy: Policy) -> [u32; REGION_WORDS]

@@ -1,11 +1,11 @@
 use borrow.Author.Needs.{needs}
 use mathlib.Core.Path.{refl}
 use Prim.Native.Nat.{_-_, _≤_}
-use Rattle.moves.specs.Setting.{Written}
-use Rattle.moves.proofs.RegionLaws.{none-written, written-more, all-written}
+use Rattle.jumps.specs.Setting.{Written}
+use Rattle.jumps.proofs.RegionLaws.{none-written, written-more, all-written}
 use native.Mathlib.Omega.{arith}
-use Rattle.moves.proofs.regions.region_words.Statement.{statement}
-use Rattle.moves.proofs.regions.region_words.Tie as tie
+use Rattle.jumps.proofs.regions.region_words.Statement.{statement}
+use Rattle.jumps.proofs.regions.region_words.Tie as tie
 
 abbrev Inv-loop : tie.InvT-loop
 Inv-loop policy words₀ j₀ words j = (j ≤ policy .count) × Written (policy .regions) words j

@@ -1,6 +1,6 @@
 use borrow.Author.Needs.{needs}
-use Rattle.moves.proofs.jumps.opposite.Statement.{statement}
-use Rattle.moves.proofs.jumps.opposite.Tie as tie
+use Rattle.jumps.proofs.opposite.Statement.{statement}
+use Rattle.jumps.proofs.opposite.Tie as tie
 
 returns : tie.Need-returns
 returns c = rw (c .enum-told .given .1)

@@ -1,7 +1,7 @@
 use borrow.Author.Needs.{needs}
-use Rattle.moves.proofs.Jumping.{ended-on, ended-refused}
-use Rattle.moves.proofs.jumps.ended.Statement.{statement}
-use Rattle.moves.proofs.jumps.ended.Tie as tie
+use Rattle.jumps.proofs.Jumping.{ended-on, ended-refused}
+use Rattle.jumps.proofs.ended.Statement.{statement}
+use Rattle.jumps.proofs.ended.Tie as tie
 
 returns : tie.Need-returns
 returns c = ended-on _ (c .before .judged .given .1)

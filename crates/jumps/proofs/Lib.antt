@@ -1,0 +1,4 @@
+pub mod Walking
+pub mod Standing
+pub mod Jumping
+pub mod RegionLaws
