@@ -131,29 +131,26 @@ module _ (s t : Term) where
   both-closed false b h = absurd (h (omega arith))
 
   module _ (h : bit (closed s) * bit (closed t) ≢ 0) where
-    sum-value : addW (valueOf s) (valueOf t) ≡ valueOf (sum s t)
-    unfolding valueOf closed eval
-    sum-value =
+    -- the value of a closed operation on two terms
+    pair-value : (f : ℕ → ℕ → ℕ) (u : Term) → closed u ≡ (closed s && closed t) → eval (λ v. 0) u ≡ f (eval (λ v. 0) s) (eval (λ v. 0) t) → f (valueOf s) (valueOf t) ≡ valueOf u
+    unfolding valueOf
+    pair-value f u c e =
         let x : ℕ = eval (λ v. 0) s in
         let y : ℕ = eval (λ v. 0) t in
         let o : 1 * x ≡ x = omega arith in
         let p : 1 * y ≡ y = omega arith in
-        let q : 1 * addW x y ≡ addW x y = omega arith in
+        let q : 1 * f x y ≡ f x y = omega arith in
         let a : bit (closed s) ≡ 1 = both-closed (closed s) (closed t) h .0 in
         let b : bit (closed t) ≡ 1 = both-closed (closed s) (closed t) h .1 in
-        rw (bit-both (closed s) (closed t), a, b, o, p, q)
+        rw (c, e, bit-both (closed s) (closed t), a, b, o, p, q)
+
+    sum-value : addW (valueOf s) (valueOf t) ≡ valueOf (sum s t)
+    unfolding closed eval
+    sum-value = pair-value addW (sum s t) refl refl
 
     difference-value : subW (valueOf s) (valueOf t) ≡ valueOf (difference s t)
-    unfolding valueOf closed eval
-    difference-value =
-        let x : ℕ = eval (λ v. 0) s in
-        let y : ℕ = eval (λ v. 0) t in
-        let o : 1 * x ≡ x = omega arith in
-        let p : 1 * y ≡ y = omega arith in
-        let q : 1 * subW x y ≡ subW x y = omega arith in
-        let a : bit (closed s) ≡ 1 = both-closed (closed s) (closed t) h .0 in
-        let b : bit (closed t) ≡ 1 = both-closed (closed s) (closed t) h .1 in
-        rw (bit-both (closed s) (closed t), a, b, o, p, q)
+    unfolding closed eval
+    difference-value = pair-value subW (difference s t) refl refl
 
 -- ---- the words of a new node
 module _ (ws : List ℕ) (top : ℕ) where
