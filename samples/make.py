@@ -1,7 +1,7 @@
 #!/usr/bin/env python3
 """Writes the sample folders: policy.bin, routine.bin, start.bin and expected (the lines that the two programs print).
 
-Run it in this folder. The expected lines are given here by hand, from document 01; compare.sh runs the programs and compares.
+Run it in this folder. The expected lines are given here by hand, from documents 01 and 02; compare.sh runs the programs and compares.
 """
 import os
 import struct
@@ -23,6 +23,10 @@ def add(a, b):
 
 def sub(a, b):
     return bytes([3]) + a + b
+
+
+def shifted(count, a):
+    return bytes([5, count]) + a
 
 
 def equal(a, b):
@@ -75,6 +79,8 @@ REFLEXIVE = bytes([2])
 EVALUATE = bytes([3])
 LINEAR = bytes([12])
 ZERO = bytes([13])
+MASKED_AT_MOST = bytes([25])
+SHIFTED_AT_MOST = bytes([27])
 
 
 def rule(number, *premises, m=b''):
@@ -194,3 +200,40 @@ WRAPPED = [instruction(0, d=1, i=8), instruction(0, d=2, i=12), instruction(3, d
 WRAPPED_PROOF = bytes([22, 0]) + EVALUATE + EVALUATE + EVALUATE
 write('wrapped_address', policy(32, 5, [(0, 9, 1)]), package(WRAPPED, [], WRAPPED_PROOF), start(5, [0] * 16, [0] * 32),
       f'verdict=16 place={12 + 8 * 5 + 3} goals=0', 'run=21 place=3 steps=3')
+
+# ---- packed fields: an egg's word has its weight in the low 12 bits and its shell colour in the high 4; adds the weight to the colour's total
+#
+#  0  r1 := 0
+#  1  r2 := Mem[r1 + 16]          the egg's word
+#  2  r3 := r2 masked with 4095   weight
+#  3  r4 := r2 shifted by 28      colour
+#  4  r5 := Mem[r4 + 0]           the total of the colour
+#  5  r5 := r5 + r3
+#  6  Mem[r4 + 0] := r5
+#  7  return                      postcondition: r3 <= 4095, r4 <= 15
+
+PACKED = [
+    instruction(0, d=1, i=0), instruction(4, d=2, a=1, i=16), instruction(10, d=3, a=2, i=4095), instruction(11, d=4, a=2, i=28),
+    instruction(4, d=5, a=4, i=0), instruction(1, d=5, a=5, b=3), instruction(5, d=5, a=4, i=0), instruction(9),
+]
+COLOUR = shifted(28, var(16))
+# colour + 0 < 16: it is the colour, which rule 12 takes as a variable; the colour <= 15 < 16
+BELOW_TABLE_END = rule(8, rule(10, LINEAR), rule(8, SHIFTED_AT_MOST, EVALUATE, m=const(15)), m=COLOUR)
+FIRST_ACCESS = bytes([22, 1]) + EVALUATE + EVALUATE
+PACKED_PROOF = b''.join([
+    FIRST_ACCESS,
+    bytes([22, 0]) + ZERO + BELOW_TABLE_END,
+    bytes([23, 0]) + ZERO + BELOW_TABLE_END,
+    MASKED_AT_MOST, SHIFTED_AT_MOST, REFLEXIVE,
+])
+PACKED_PACKAGE = package(PACKED, [], PACKED_PROOF)
+PACKED_START = start(8, [9] * 16, [100 * k for k in range(16)] + [5 << 28 | 77 << 12 | 623])
+PACKED_POST = [at_most(var(3), const(4095)), at_most(var(4), const(15))]
+write('packed_fields', policy(17, 8, [(0, 16, 3), (16, 1, 1)], post=PACKED_POST), PACKED_PACKAGE, PACKED_START,
+      'verdict=0 place=0 goals=6', 'run=0 place=7 steps=8')
+
+# ---- the same routine over a table of 15 words: colour 15 would be past it; this egg has another
+
+TABLE_END = 12 + 8 * len(PACKED) + len(FIRST_ACCESS) + 3 + len(BELOW_TABLE_END)
+write('field_past_table', policy(17, 8, [(0, 15, 3), (16, 1, 1)], post=PACKED_POST), PACKED_PACKAGE, PACKED_START,
+      f'verdict=16 place={TABLE_END - 1} goals=1', 'run=0 place=7 steps=8')

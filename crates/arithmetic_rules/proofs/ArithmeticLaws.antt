@@ -1,24 +1,27 @@
 -- Laws of the rules of arithmetic: one for each way out. Assumes nothing.
-use mathlib.Core.Path.{_≡_, refl, sym, ap, _∙_}
+use mathlib.Core.Path.{_≡_, refl, sym, _∙_}
 use mathlib.Core.Bool.{Bool, true, false}
 use mathlib.Core.List.{List}
 use Prim.Native.Nat.{ℕ, _+_, _<_, _≤_}
 use native.Mathlib.Omega.{arith}
-use Rattle.model.specs.Result.{Fit, stop, value}
-use Rattle.model.specs.Term.{Term, constant, variable, sum, difference, eqTerm}
-use Rattle.model.specs.Rule.{sumOf, premises}
+use lib.ListN.{length}
+use Rattle.model.specs.Result.{value}
+use Rattle.model.specs.Term.{Term, constant, sum, difference, eqTerm}
+use Rattle.model.specs.Rule.{pairOf, sumOf, premises}
 use Rattle.model.specs.Rule.{congruence, linear, successor-at-most, below-successor, sum-no-overflow}
 use Rattle.model.specs.Linear.{sameForm}
-use Rattle.model.proofs.Gives.{gives-value}
+use Rattle.model.proofs.Gives.{Gives, gives, gives-then, gives-check, gives-value}
+use Rattle.model.proofs.Terms.{with-tag}
 use Rattle.model.specs.declared.Comparison.the-variants.{Equal, Less, AtMost}
 use Rattle.terms.specs.Table.{termAt, Formed, Put}
+use Rattle.workspace.specs.Layout.{hintBase, Same}
 use Rattle.linear.specs.Area.{Comparable}
 use Rattle.linear.specs.Comparison.{comparisonOf}
 use Rattle.linear.specs.declared.FormComparison.{FormComparison}
 use Rattle.linear.specs.declared.FormComparison.the-variants.{Same as SameForm, Different}
 use Rattle.model_laws.proofs.Bounds.{sides-bounded}
 use Rattle.model_laws.proofs.Steps.{goes-on, check-fails, check-passes}
-use Rattle.claims.specs.Parts.{claimOf, ClaimBelow, operandsFor, Sides, Operands, FourOperands}
+use Rattle.claims.specs.Parts.{claimOf, ClaimBelow, operandsFor, Sides, Operands, Congruent}
 use Rattle.claims.specs.Plan.{premise, blank, plan, Planned, Anywhere, asks, always}
 use Rattle.arithmetic_rules.specs.Monotone.{monotonePremises}
 use Rattle.arithmetic_rules.specs.Forms.{Linear}
@@ -28,30 +31,38 @@ use Rattle.claims.specs.declared.Plan.{Plan}
 use Rattle.claims.specs.declared.parts.Operation.{Operation}
 use Rattle.claims.specs.declared.parts.Operation.the-variants.{Sum as SumOf, Difference as DifferenceOf}
 use Rattle.claims.specs.declared.parts.Pair.the-variants.{Nodes}
-use Rattle.claims.specs.declared.parts.Quadruple.the-variants.{Nodes as FourNodes}
-use Rattle.claims.proofs.PlanLaws.{formed-at, kept-term, stays, misfits, fits-none, fits-one, fits-two, fits-three, Unfit, two-put}
+use Rattle.claims.specs.declared.parts.Congruence.the-variants.{Pairs, Single, Misfit as NoCongruence}
+use Rattle.claims.proofs.PlanLaws.{formed-at, kept-term, stays, stays-hinted, misfits, fits-none, fits-one, fits-two, fits-three, Unfit, two-put}
 
 -- a claim a = b
 module _ {ws : List ℕ} {top : ℕ} {claim : Claim} (f : Formed ws top) (i : ClaimBelow top claim) {l r : ℕ} (s : Sides Equal claim (Nodes l r)) {p : Plan} where
-  pub congruence-fits : {a b c d : ℕ} → FourOperands ws l r (FourNodes a b c d) → {x y : Premise} → x ≡ premise Equal a c → y ≡ premise Equal b d → p ≡ plan true 2 x y y top
+  -- rule 11
+  pub pairs-fit : {a b c d : ℕ} → Congruent ws l r (Pairs a b c d) → {x y : Premise} → x ≡ premise Equal a c → y ≡ premise Equal b d → p ≡ plan true 2 x y y top
       → Planned Anywhere (asks congruence (claimOf ws claim)) ws ws top p
   unfolding premises
-  congruence-fits o d d2 e =
+  pairs-fit o d d2 e =
       let j = s .below top i in
       let k = o .below in
-      fits-two (stays f) d (omega arith) d2 (omega arith) e (λ policy g _. goes-on _ (s .is ws) (goes-on _ (o .is) refl))
+      fits-two (stays f) d (omega arith) d2 (omega arith) e (λ policy g _. goes-on _ (s .is ws) (o .is))
+
+  pub single-fits : {a c : ℕ} → Congruent ws l r (Single a c) → {x : Premise} → x ≡ premise Equal a c → p ≡ plan true 1 x x x top → Planned Anywhere (asks congruence (claimOf ws claim)) ws ws top p
+  unfolding premises
+  single-fits o d e =
+      let j = s .below top i in
+      let k = o .below in
+      fits-one (stays f) d (omega arith) e (λ policy g _. goes-on _ (s .is ws) (o .is))
+
+  pub not-congruent : Congruent ws l r NoCongruence → Unfit top p → Planned Anywhere (asks congruence (claimOf ws claim)) ws ws top p
+  unfolding premises
+  not-congruent o e = misfits (stays f) e (λ policy g _. goes-on _ (s .is ws) (o .is))
 
 -- ---- a claim a ≤ b
-joined : Fit (Term × Term) → Term
-joined (value (a, b)) = sum a b
-joined (stop e) = constant 0
+sum-gives : (t : Term) → Gives (λ (s : Term × Term). t ≡ sum (s .0) (s .1)) (sumOf t)
+unfolding sumOf pairOf
+sum-gives t = gives-then (gives-check _ _) λ _ e. gives (sym (with-tag 2 t e))
 
 sum-is : (t : Term) {a b : Term} → value (a, b) ≡ sumOf t → t ≡ sum a b
-unfolding sumOf joined
-sum-is (constant c) h = let z : _≡_ {A = ℕ} 0 1 = cc in absurd (omega arith)
-sum-is (variable v) h = let z : _≡_ {A = ℕ} 0 1 = cc in absurd (omega arith)
-sum-is (sum s t) h = sym (ap joined h)
-sum-is (difference s t) h = let z : _≡_ {A = ℕ} 0 1 = cc in absurd (omega arith)
+sum-is t h = gives-value (sym h) (sum-gives t)
 
 module _ {ws : List ℕ} {top : ℕ} {claim : Claim} (f : Formed ws top) (i : ClaimBelow top claim) {l r : ℕ} (s : Sides AtMost claim (Nodes l r)) {p : Plan} where
   -- rules 14 and 15
@@ -112,11 +123,11 @@ module _ {ws : List ℕ} {top : ℕ} {claim : Claim} (f : Formed ws top) {a b : 
       let k = gives-value (sym (s .is ws)) (sides-bounded _ Equal (claimOf ws claim) (l .bounded)) in
       record { few = omega (arith, l .most); left = record { formed = formed-at f (j .0); within = k .0 }; right = record { formed = formed-at f (j .1); within = k .1 }; cleared = l .cleared }
 
-  module _ {us : List ℕ} (u : us ≡ ws) {x : FormComparison} (h : x ≡ comparisonOf (sameForm (termAt ws a) (termAt ws b))) {p : Plan} where
+  module _ {us : List ℕ} (u : Same 0 hintBase ws us) (n : length us ≡ length ws) {x : FormComparison} (h : x ≡ comparisonOf (sameForm (termAt ws a) (termAt ws b))) {p : Plan} where
     pub linear-fits : x ≡ SameForm → p ≡ plan true 0 blank blank blank top → Planned Anywhere (asks linear (claimOf ws claim)) ws us top p
     unfolding premises
-    linear-fits t e = rw u (fits-none (stays f) e (λ policy g _. goes-on _ (s .is ws) (check-passes _ _ (form-test _ h .0 t) refl)))
+    linear-fits t e = fits-none (stays-hinted f u n) e (λ policy g _. goes-on _ (s .is ws) (check-passes _ _ (form-test _ h .0 t) refl))
 
     pub linear-differs : x ≡ Different → Unfit top p → Planned Anywhere (asks linear (claimOf ws claim)) ws us top p
     unfolding premises
-    linear-differs t e = rw u (misfits (stays f) e (λ policy g _. goes-on _ (s .is ws) (check-fails _ _ (form-test _ h .1 t))))
+    linear-differs t e = misfits (stays-hinted f u n) e (λ policy g _. goes-on _ (s .is ws) (check-fails _ _ (form-test _ h .1 t)))

@@ -2,9 +2,9 @@
 use claims::Claim;
 use claims::Plan;
 use claims::parts;
+use claims::parts::Congruence;
 use claims::parts::Operation;
 use claims::parts::Pair;
-use claims::parts::Quadruple;
 use claims::plans;
 use linear::FormComparison;
 use model::Comparison;
@@ -15,7 +15,7 @@ ghost use Rattle.claims.specs.Plan.{newNodes, Planned, Anywhere, asks, always};
 ghost use Rattle.arithmetic_rules.specs.Forms.{Linear};
 ghost use Rattle.arithmetic_rules.specs.Monotone.{monotonePremises};
 
-// Rule 11: a+b = c+d, or a-b = c-d, from a = c, b = d.
+// Rule 11: a+b = c+d, a-b = c-d, or a masked with b = c masked with d, from a = c, b = d; shifts by one count of a and c, from a = c.
 pub fn congruent(ws: &[u32], claim: Claim, top: usize) -> Plan
     requires { ⌜ Formed (now ws) top ⌝ }
     requires { ⌜ ClaimBelow top claim ⌝ }
@@ -24,14 +24,15 @@ pub fn congruent(ws: &[u32], claim: Claim, top: usize) -> Plan
     let Pair::Nodes(left, right) = parts::sides(claim, Comparison::Equal) else {
         return plans::unfit(top);
     };
-    let Quadruple::Nodes(a, b, c, d) = parts::same_operation(ws, left, right) else {
-        return plans::unfit(top);
-    };
-    plans::two(
-        plans::compared(Comparison::Equal, a, c),
-        plans::compared(Comparison::Equal, b, d),
-        top,
-    )
+    match parts::same_operation(ws, left, right) {
+        Congruence::Pairs(a, b, c, d) => plans::two(
+            plans::compared(Comparison::Equal, a, c),
+            plans::compared(Comparison::Equal, b, d),
+            top,
+        ),
+        Congruence::Single(a, c) => plans::one(plans::compared(Comparison::Equal, a, c), top),
+        Congruence::Misfit => plans::unfit(top),
+    }
 }
 
 // Rule 12: a = b when both have the same linear form.

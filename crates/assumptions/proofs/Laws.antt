@@ -101,7 +101,7 @@ module _ {ws : List ℕ} {count top : ℕ} (c : (count < mostAssumptions) × (to
 -- the table and its terms are kept
 module _ {ws us : List ℕ} {count top : ℕ} {a : Atom} (c : count < mostAssumptions) (f : Formed ws top) (p : Pushed ws us count top a) where
   pub pushed-table : Same tableBase (place top) ws us
-  pushed-table = same-within tableBase (place top) (omega arith) (omega (arith, f .room)) (p .above)
+  pushed-table = same-within tableBase (place top) (omega arith) (omega (arith, f .shaped .words, f .shaped .fits)) (p .above)
 
   pub pushed-formed : length us ≡ length ws → Formed us top
   pushed-formed e = formed-same top pushed-table e f

@@ -1,42 +1,34 @@
 -- Laws of claims and terms taken apart: one for each way out. Assumes nothing.
 use mathlib.Core.Path.{_≡_, refl, sym, _∙_}
 use mathlib.Core.Logic.{⊎-elim, _⊎_}
-use mathlib.Core.Bool.{Bool, false, _&&_}
+use mathlib.Core.Bool.{Bool, true, false, not, _&&_, _||_}
 use mathlib.Core.List.{List}
-use Prim.Native.Nat.{ℕ, suc, _<_}
+use Prim.Native.Nat.{ℕ, zero, suc, _%_, _<_, _≤_}
 use native.Mathlib.Omega.{arith}
-use lib.Dec.{eqb}
-use borrow.Author.Tests.{eq-eqb, ne-eqb}
+use lib.Dec.{eqb, ltb}
+use borrow.Author.Tests.{eq-eqb, ne-eqb, eqb-true, ltb-false, not-true, not-false}
 use denote.Enum.Declared.{tagOf as variant, declared}
-use Rattle.model.specs.Result.{Fit, stop, value, misfit, _>>=_, check}
-use Rattle.model.specs.Term.{Term, constant, eqTerm}
+use Rattle.model.specs.Result.{stop, value, misfit, _>>=_, check}
+use Rattle.model.specs.Term.{Term, constant, variable, sum, difference, mask, shift, rootOf, eqTerm}
 use Rattle.model.specs.Atom.{tagOf, eqAtom}
-use Rattle.model.specs.Rule.{atomOf, sidesOf, sumOf, differenceOf, operandsOf}
+use Rattle.model.specs.Rule.{atomOf, sidesOf, pairOf, sumOf, differenceOf, maskOf, shiftOf, equalPairs, congruent}
 use Rattle.model.specs.declared.Comparison.{Comparison}
-use Rattle.terms.specs.Table.{viewOf, build, termAt, Formed}
-use Rattle.terms.specs.declared.Node.{Node}
-use Rattle.terms.specs.declared.Node.the-variants.{Constant, Variable, Sum, Difference}
-use Rattle.terms.proofs.Node.{enum as node-enum}
-use Rattle.terms.proofs.Table.{node-order, node-built}
+use Rattle.terms.specs.Table.{low, high, partsAt, valueAt, marksAt, nodeOfTag, viewOf, build, termAt, Formed}
+use Rattle.terms.proofs.Table.{marks-here, built-here, shift-tag}
+use Rattle.terms.proofs.Walks.{tag-at, reduced-first, reduced-second}
 use Rattle.assumptions.specs.Area.{entryOf, atomIn}
 use Rattle.assumptions.specs.declared.Assumption.{Assumption}
-use Rattle.claims.specs.Parts.{beforePair, operandsFor, Sides, Accesses, Operands, FourOperands}
+use Rattle.claims.specs.Parts.{Sides, Accesses, Operands, Shifts, Congruent}
 use Rattle.claims.specs.declared.Claim.{Claim}
 use Rattle.claims.specs.declared.Claim.the-variants.{Atom, Readable, Writable}
-use Rattle.claims.specs.declared.parts.Operation.{Operation}
-use Rattle.claims.specs.declared.parts.Operation.the-variants.{Sum as SumOf, Difference as DifferenceOf}
-use Rattle.claims.specs.declared.parts.Pair.{Pair}
 use Rattle.claims.specs.declared.parts.Pair.the-variants.{Nodes, Misfit}
-use Rattle.claims.specs.declared.parts.Quadruple.{Quadruple}
-use Rattle.claims.specs.declared.parts.Quadruple.the-variants.{Misfit as NoNodes}
+use Rattle.claims.specs.declared.parts.Shift.the-variants.{By, Misfit as NoShift}
+use Rattle.claims.specs.declared.parts.Congruence.the-variants.{Pairs, Single, Misfit as NoCongruence}
 use Rattle.claims.proofs.Claim.{enum as claim-enum}
 
 -- ---- a value that is none of the variants that are left
 pub neither : {A : Type 0} {w x y : ℕ} → (w ≡ x → ⊥) → (w ≡ y → ⊥) → (w ≡ x) ⊎ (w ≡ y) → A
 neither a b o = ⊎-elim (λ e. absurd (a e)) (λ e. absurd (b e)) o
-
-none-of : {A : Type 0} {w x y z : ℕ} → (w ≡ x → ⊥) → (w ≡ y → ⊥) → (w ≡ z → ⊥) → (w ≡ x) ⊎ ((w ≡ y) ⊎ (w ≡ z)) → A
-none-of a b c o = ⊎-elim (λ e. absurd (a e)) (neither b c) o
 
 -- ---- the sides of a claim
 abbrev pub NotAtom : Claim → Type 0
@@ -69,81 +61,109 @@ module _ {claim : Claim} where
   pub writable-access : {t : ℕ} → claim ≡ Writable t → Accesses claim (record { right = 2; node = t })
   writable-access e = rw e (record { right = λ ws. refl; term = λ ws. refl; below = λ top h. h })
 
--- ---- the operands of a node
-abbrev shape : Node → ℕ
-shape n = variant (declared node-enum) n
+-- ---- the operands of a node, by its tag
+pair-parts : (f : ℕ → Term) (t p v : ℕ) → (1 < t) × (t < 5) → value (f (low p), f (high p)) ≡ pairOf t (build f (nodeOfTag t p v))
+unfolding pairOf _>>=_ check
+pair-parts f zero p v h = absurd (omega arith)
+pair-parts f (suc zero) p v h = absurd (omega arith)
+pair-parts f (suc (suc zero)) p v h = refl
+pair-parts f (suc (suc (suc zero))) p v h = refl
+pair-parts f (suc (suc (suc (suc zero)))) p v h = refl
+pair-parts f (suc (suc (suc (suc (suc t))))) p v h = absurd (omega arith)
 
-not-sum : (f : ℕ → Term) (n : Node) → (shape n ≡ 0) ⊎ ((shape n ≡ 1) ⊎ (shape n ≡ 3)) → stop misfit ≡ sumOf (build f n)
-unfolding sumOf
-not-sum f (Constant c) o = refl
-not-sum f (Variable v) o = refl
-not-sum f (Sum l r) o = none-of (omega arith) (omega arith) (omega arith) o
-not-sum f (Difference l r) o = refl
+-- a term of another tag
+pair-other : (tag : ℕ) (t : Term) → (rootOf t .tag ≡ tag → ⊥) → stop misfit ≡ pairOf tag t
+unfolding pairOf _>>=_ check
+pair-other tag t n = rw (ne-eqb (rootOf t .tag) tag n, pairOf)
 
-not-difference : (f : ℕ → Term) (n : Node) → (shape n ≡ 0) ⊎ ((shape n ≡ 1) ⊎ (shape n ≡ 2)) → stop misfit ≡ differenceOf (build f n)
-unfolding differenceOf
-not-difference f (Constant c) o = refl
-not-difference f (Variable v) o = refl
-not-difference f (Sum l r) o = refl
-not-difference f (Difference l r) o = none-of (omega arith) (omega arith) (omega arith) o
-
-not-constant : (f : ℕ → Term) (n : Node) (k : ℕ) → (shape n ≡ 1) ⊎ ((shape n ≡ 2) ⊎ (shape n ≡ 3)) → false ≡ eqTerm (build f n) (constant k)
+constant-by : (f : ℕ → Term) (t p v k : ℕ) → (eqb t 0 && eqb v k) ≡ eqTerm (build f (nodeOfTag t p v)) (constant k)
 unfolding eqTerm
-not-constant f (Constant c) k o = none-of (omega arith) (omega arith) (omega arith) o
-not-constant f (Variable v) k o = refl
-not-constant f (Sum l r) k o = refl
-not-constant f (Difference l r) k o = refl
+constant-by f zero p v k = refl
+constant-by f (suc zero) p v k = refl
+constant-by f (suc (suc zero)) p v k = refl
+constant-by f (suc (suc (suc zero))) p v k = refl
+constant-by f (suc (suc (suc (suc zero)))) p v k = refl
+constant-by f (suc (suc (suc (suc (suc t))))) p v k = rw (ne-eqb (suc (suc (suc (suc (suc t))))) 0 (omega arith))
 
-module _ {ws : List ℕ} {i : ℕ} (f : Formed ws (suc i)) {n : Node} (e : n ≡ viewOf ws i) where
-  module _ {op : Operation} (t : op ≡ SumOf) where
-    pub sum-none : (shape n ≡ 0) ⊎ ((shape n ≡ 1) ⊎ (shape n ≡ 3)) → Operands ws i Misfit (operandsFor op (termAt ws i))
-    sum-none o = rw t (record { is = rw (node-built f e refl) (not-sum (termAt ws) n o); below = tt })
+module _ {ws : List ℕ} {i : ℕ} (f : Formed ws (suc i)) {tag : ℕ} (q : tag ≡ marksAt ws i % 8) where
+  tag-here : rootOf (termAt ws i) .tag ≡ tag
+  tag-here = sym (q ∙ tag-at (marks-here (f .shaped)))
 
-    pub sum-nodes : {l r : ℕ} → n ≡ Sum l r → Operands ws i (Nodes l r) (operandsFor op (termAt ws i))
-    unfolding sumOf
-    sum-nodes a = rw t (record { is = rw (node-built f e a); below = node-order f e a })
+  term-here : termAt ws i ≡ build (termAt ws) (nodeOfTag tag (partsAt ws i) (valueAt ws i))
+  unfolding viewOf
+  term-here = rw q (built-here (f .shaped))
 
-  module _ {op : Operation} (t : op ≡ DifferenceOf) where
-    pub difference-none : (shape n ≡ 0) ⊎ ((shape n ≡ 1) ⊎ (shape n ≡ 2)) → Operands ws i Misfit (operandsFor op (termAt ws i))
-    difference-none o = rw t (record { is = rw (node-built f e refl) (not-difference (termAt ws) n o); below = tt })
+  pub pair-none : {t : ℕ} → (tag ≡ t → ⊥) → Operands ws i Misfit (pairOf t (termAt ws i))
+  pair-none {t} n = record { is = pair-other t (termAt ws i) (λ e. n (sym tag-here ∙ e)); below = tt }
 
-    pub difference-nodes : {l r : ℕ} → n ≡ Difference l r → Operands ws i (Nodes l r) (operandsFor op (termAt ws i))
-    unfolding differenceOf
-    difference-nodes a = rw t (record { is = rw (node-built f e a); below = node-order f e a })
+  pub shift-none : (tag ≡ 5 → ⊥) → Shifts ws i NoShift
+  unfolding shiftOf _>>=_ check
+  shift-none n = record { is = rw (tag-here, ne-eqb tag 5 n, shiftOf); below = tt }
 
-  pub constant-none : (k : ℕ) → (shape n ≡ 1) ⊎ ((shape n ≡ 2) ⊎ (shape n ≡ 3)) → false ≡ eqTerm (termAt ws i) (constant k)
-  constant-none k o = rw (node-built f e refl) (not-constant (termAt ws) n k o)
+  module _ {a b : ℕ} (d : a ≡ low (partsAt ws i)) (e : (b ≡ high (partsAt ws i)) × (b < 65536)) where
+    pub pair-nodes : {t : ℕ} → (1 < t) × (t < 5) → tag ≡ t → Operands ws i (Nodes a b) (pairOf t (termAt ws i))
+    pair-nodes {t} h g = record { is = rw (d, e .0, term-here, ← g) (pair-parts (termAt ws) tag (partsAt ws i) (valueAt ws i) (omega arith, omega arith)); below = (reduced-first f q d (omega arith), reduced-second f q (e .0) (omega arith) (omega arith)) }
 
-  pub constant-same : (k : ℕ) {own : ℕ} → n ≡ Constant own → eqb own k ≡ eqTerm (termAt ws i) (constant k)
-  unfolding eqTerm
-  constant-same k a = rw (node-built f e a)
+    shift-here : 4 < tag → termAt ws i ≡ shift b (termAt ws a)
+    shift-here h = rw (d, e .0, term-here, shift-tag tag (partsAt ws i) (valueAt ws i) h)
 
--- ---- the operands of two nodes
-four-pair : {ws : List ℕ} {i j a b : ℕ} (r : Pair) {q : Quadruple} (s : Fit (Term × Term)) → (a < i) × (b < i) → Operands ws j r s → q ≡ beforePair a b r
-    → operandsOf (termAt ws i) (termAt ws j) ≡ (s >>= λ (c, d). value (termAt ws a, termAt ws b, c, d)) → FourOperands ws i j q
-unfolding _>>=_
-four-pair (Nodes c d) s h o e k = rw e (record { is = sym (rw (k, ← o .is)); below = (h, o .below) })
-four-pair Misfit s h o e k = rw e (record { is = sym (rw (k, ← o .is)); below = tt })
+    pub shift-node : tag ≡ 5 → Shifts ws i (By b a)
+    unfolding shiftOf _>>=_ check
+    shift-node h = record { is = rw (shift-here (omega arith)); below = reduced-first f q d (omega arith) }
 
-no-operation : (f : ℕ → Term) (n : Node) (t : Term) → (shape n ≡ 0) ⊎ (shape n ≡ 1) → stop misfit ≡ operandsOf (build f n) t
-unfolding operandsOf
-no-operation f (Constant c) t o = refl
-no-operation f (Variable v) t o = refl
-no-operation f (Sum l r) t o = neither (omega arith) (omega arith) o
-no-operation f (Difference l r) t o = neither (omega arith) (omega arith) o
+  pub constant-is : (k : ℕ) {v : ℕ} → v ≡ valueAt ws i → (eqb tag 0 && eqb v k) ≡ eqTerm (termAt ws i) (constant k)
+  constant-is k d = rw (d, term-here) (constant-by (termAt ws) tag (partsAt ws i) (valueAt ws i) k)
 
-module _ {ws : List ℕ} {i j : ℕ} (f : Formed ws (suc i)) {n : Node} (e : n ≡ viewOf ws i) where
-  pub four-none : (shape n ≡ 0) ⊎ (shape n ≡ 1) → FourOperands ws i j NoNodes
-  four-none o = record { is = rw (node-built f e refl) (no-operation (termAt ws) n (termAt ws j) o); below = tt }
+-- ---- what makes two nodes equal
+congruent-pairs : (f : ℕ → Term) (t p v : ℕ) (u : Term) → (1 < t) × (t < 5) → congruent (build f (nodeOfTag t p v)) u ≡ equalPairs (f (low p)) (f (high p)) (pairOf t u)
+unfolding congruent sumOf differenceOf maskOf
+congruent-pairs f zero p v u h = absurd (omega arith)
+congruent-pairs f (suc zero) p v u h = absurd (omega arith)
+congruent-pairs f (suc (suc zero)) p v u h = refl
+congruent-pairs f (suc (suc (suc zero))) p v u h = refl
+congruent-pairs f (suc (suc (suc (suc zero)))) p v u h = refl
+congruent-pairs f (suc (suc (suc (suc (suc t))))) p v u h = absurd (omega arith)
 
-  module _ {a b : ℕ} {r : Pair} {q : Quadruple} (k : q ≡ beforePair a b r) where
-    pub four-sum : n ≡ Sum a b → Operands ws j r (sumOf (termAt ws j)) → FourOperands ws i j q
-    unfolding operandsOf
-    four-sum d o = four-pair r (sumOf (termAt ws j)) (node-order f e d) o k (rw (node-built f e d))
+-- no operation, or not the same
+unlike : (s u : Term) → (ltb (rootOf s .tag) 2 || not (eqb (rootOf u .tag) (rootOf s .tag))) ≡ true → stop misfit ≡ congruent s u
+unfolding congruent equalPairs sumOf differenceOf maskOf pairOf shiftOf _>>=_ check
+unlike (constant c) u h = refl
+unlike (variable v) u h = refl
+unlike (sum a b) u h = rw (not-true (eqb (rootOf u .tag) 2) h)
+unlike (difference a b) u h = rw (not-true (eqb (rootOf u .tag) 3) h)
+unlike (mask a b) u h = rw (not-true (eqb (rootOf u .tag) 4) h)
+unlike (shift count a) u h = rw (not-true (eqb (rootOf u .tag) 5) h)
 
-    pub four-difference : n ≡ Difference a b → Operands ws j r (differenceOf (termAt ws j)) → FourOperands ws i j q
-    unfolding operandsOf
-    four-difference d o = four-pair r (differenceOf (termAt ws j)) (node-order f e d) o k (rw (node-built f e d))
+neither-test : (a b : Bool) → (a || b) ≡ false → (a ≡ false) × (b ≡ false)
+neither-test true b h = let z : _≡_ {A = ℕ} 0 1 = cc in absurd (omega arith)
+neither-test false b h = (refl, h)
+
+module _ {ws : List ℕ} {i j : ℕ} (f : Formed ws (suc i)) (g : Formed ws (suc j)) {m n : ℕ} (q : m ≡ marksAt ws i % 8) (r : n ≡ marksAt ws j % 8) where
+  pub congruence-none : (ltb m 2 || not (eqb n m)) ≡ true → Congruent ws i j NoCongruence
+  congruence-none o = record { is = unlike (termAt ws i) (termAt ws j) (rw (tag-here f q, tag-here g r) o); below = tt }
+
+  module _ (o : (ltb m 2 || not (eqb n m)) ≡ false) {a b c d : ℕ} (ea : a ≡ low (partsAt ws i)) (eb : (b ≡ high (partsAt ws i)) × (b < 65536)) (ec : c ≡ low (partsAt ws j)) (ed : (d ≡ high (partsAt ws j)) × (d < 65536)) where
+    one-tag : (1 < m) × (n ≡ m)
+    one-tag = let x = neither-test (ltb m 2) (not (eqb n m)) o in (ltb-false m 2 (x .0), eqb-true n m (not-false (eqb n m) (x .1)))
+
+    first-nodes : (a < i) × (c < j)
+    first-nodes = (reduced-first f q ea (one-tag .0), reduced-first g r ec (rw (one-tag .1) (one-tag .0)))
+
+    pub congruence-pairs : m < 5 → Congruent ws i j (Pairs a b c d)
+    unfolding equalPairs _>>=_
+    congruence-pairs h =
+        let x : (1 < m) × (m < 5) = (one-tag .0, h) in
+        let y = pair-nodes f q ea eb x refl in
+        let z = pair-nodes g r ec ed x (one-tag .1) in
+        record { is = sym (rw (term-here f q, congruent-pairs (termAt ws) m (partsAt ws i) (valueAt ws i) (termAt ws j) x, ← z .is, ← ea, ← eb .0)); below = (y .below, z .below) }
+
+    pub congruence-single : 5 ≤ m → b ≡ d → Congruent ws i j (Single a c)
+    unfolding congruent shiftOf _>>=_ check
+    congruence-single h k = record { is = rw (shift-here f q ea eb h, shift-here g r ec ed (omega (arith, one-tag .1)), eq-eqb b d k); below = first-nodes }
+
+    pub congruence-counts : 5 ≤ m → (b ≡ d → ⊥) → Congruent ws i j NoCongruence
+    unfolding congruent shiftOf _>>=_ check
+    congruence-counts h k = record { is = rw (shift-here f q ea eb h, shift-here g r ec ed (omega (arith, one-tag .1)), ne-eqb b d k); below = tt }
 
 -- ---- an assumption
 module _ (ws : List ℕ) (k : ℕ) {a : Assumption} (e : a ≡ entryOf ws k) where

@@ -12,12 +12,12 @@ use Rattle.model.specs.Policy.{Policy}
 use Rattle.model.specs.Goals.{Goal}
 use Rattle.model.specs.Rule.{atomOf, sidesOf}
 use Rattle.model.specs.declared.Comparison.{Comparison}
-use Rattle.workspace.specs.Layout.{tableBase, Same}
+use Rattle.workspace.specs.Layout.{tableBase, hintBase, Same}
 use Rattle.terms.specs.Table.{place, termAt, Formed, Space, Put}
 use Rattle.workspace.proofs.Frames.{same-refl, same-trans, same-within}
-use Rattle.terms.proofs.Table.{term-same, formed-less}
+use Rattle.terms.proofs.Table.{term-same, formed-same, formed-less}
 use Rattle.claims.proofs.PartLaws.{neither, NotAtom}
-use Rattle.claims.specs.Parts.{claimOf, ClaimBelow, Sides, Operands, FourOperands}
+use Rattle.claims.specs.Parts.{claimOf, ClaimBelow, Sides, Operands, Shifts, Congruent}
 use Rattle.claims.specs.Plan.{premise, blank, plan, atomIn, Grows, Planned, Anywhere, asks, always, premiseAt, premisesFrom, premisesOf, restOf, PremiseBelow}
 use Rattle.claims.specs.declared.Claim.{Claim}
 use Rattle.claims.specs.declared.Claim.the-variants.{Atom as AtomClaim, Readable, Writable}
@@ -25,7 +25,8 @@ use Rattle.claims.specs.declared.Premise.{Premise}
 use Rattle.claims.specs.declared.Plan.{Plan}
 use Rattle.claims.specs.declared.parts.Pair.{Pair}
 use Rattle.claims.specs.declared.parts.Pair.the-variants.{Nodes, Misfit}
-use Rattle.claims.specs.declared.parts.Quadruple.{Quadruple}
+use Rattle.claims.specs.declared.parts.Shift.{Shift}
+use Rattle.claims.specs.declared.parts.Congruence.{Congruence}
 use Rattle.model_laws.proofs.Steps.{stops, goes-on, check-passes}
 
 -- ---- what a callee's answer says, once its variant is known
@@ -35,8 +36,11 @@ sides-told {kind} {claim} s e = subst (Sides kind claim) e s
 pub operands-told : {ws : List ℕ} {i : ℕ} {r q : Pair} {s : Fit (Term × Term)} → Operands ws i r s → r ≡ q → Operands ws i q s
 operands-told {ws} {i} {s = s} o e = subst (λ x. Operands ws i x s) e o
 
-pub four-told : {ws : List ℕ} {i j : ℕ} {r q : Quadruple} → FourOperands ws i j r → r ≡ q → FourOperands ws i j q
-four-told {ws} {i} {j} o e = subst (FourOperands ws i j) e o
+pub shifts-told : {ws : List ℕ} {i : ℕ} {r q : Shift} → Shifts ws i r → r ≡ q → Shifts ws i q
+shifts-told {ws} {i} o e = subst (Shifts ws i) e o
+
+pub congruent-told : {ws : List ℕ} {i j : ℕ} {r q : Congruence} → Congruent ws i j r → r ≡ q → Congruent ws i j q
+congruent-told {ws} {i} {j} o e = subst (Congruent ws i j) e o
 
 -- a table's shorter part, up to a node of it
 pub formed-at : {ws : List ℕ} {top i : ℕ} → Formed ws top → i < top → Formed ws (suc i)
@@ -51,6 +55,15 @@ kept-term {top = top} {i = i} s h = term-same top (same-within tableBase (place 
 -- ---- plans
 pub stays : {ws : List ℕ} {top : ℕ} → Formed ws top → Grows ws ws top top
 stays {ws} {top} f = record { kept = same-refl 0 (place top) ws; formed = f; above = omega arith; few = omega arith }
+
+-- where hints alone are changed
+pub stays-hinted : {ws us : List ℕ} {top : ℕ} → Formed ws top → Same 0 hintBase ws us → length us ≡ length ws → Grows ws us top top
+stays-hinted {top = top} f s e = record {
+  kept = same-within 0 (place top) (omega arith) (omega (arith, f .shaped .fits)) s;
+  formed = formed-same top (same-within tableBase (place top) (omega arith) (omega (arith, f .shaped .fits)) s) e f;
+  above = omega arith;
+  few = omega arith;
+}
 
 three-below : {high : ℕ} (p : Plan) → PremiseBelow high (p .first) → PremiseBelow high (p .second) → PremiseBelow high (p .third) → (k : ℕ) → PremiseBelow high (premiseAt p k)
 three-below p h h2 h3 zero = h

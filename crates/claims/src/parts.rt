@@ -2,17 +2,17 @@
 use crate::Claim;
 use fields::kinds;
 use model::Comparison;
-use terms::Node;
 ghost use mathlib.Core.Path.{_≡_};
 ghost use Prim.Native.Nat.{suc, _<_, _≤_};
 ghost use lib.ListN.{length};
 ghost use Rattle.model.specs.Term.{constant, eqTerm};
+ghost use Rattle.model.specs.Rule.{pairOf, maskOf};
 ghost use Rattle.model.specs.Atom.{compares, eqAtom};
 ghost use Rattle.model.specs.Verdict.{leastWorkspace};
 ghost use Rattle.workspace.specs.Layout.{mostAssumptions};
 ghost use Rattle.terms.specs.Table.{termAt, Formed};
 ghost use Rattle.assumptions.specs.Area.{entryOf, atomIn};
-ghost use Rattle.claims.specs.Parts.{beforePair, operandsFor, Sides, Accesses, Operands, FourOperands};
+ghost use Rattle.claims.specs.Parts.{operandsFor, Sides, Accesses, Operands, Shifts, Congruent};
 
 // Two nodes, or that what is looked at has not the form that is asked for.
 pub enum Pair {
@@ -32,9 +32,16 @@ pub struct Access {
     pub node: usize,
 }
 
-// Four nodes, or a misfit.
-pub enum Quadruple {
-    Nodes(usize, usize, usize, usize),
+// The count of a shift and the node that it shifts, or a misfit.
+pub enum Shift {
+    By(u32, usize),
+    Misfit,
+}
+
+// What makes two terms of one operation equal: a = c and b = d, for nodes a, b, c, d, or a = c alone, for a and c; or a misfit.
+pub enum Congruence {
+    Pairs(usize, usize, usize, usize),
+    Single(usize, usize),
     Misfit,
 }
 
@@ -78,44 +85,71 @@ pub fn accessed(claim: Claim) -> Access
     }
 }
 
+// The two operands of node i, where its tag is this one: 2 for a sum, 3 for a difference, 4 for a mask.
+fn pair_of(ws: &[u32], i: usize, tag: u32) -> Pair
+    requires { ⌜ Formed (now ws) (suc i) ⌝ }
+    requires { ⌜ (1 < tag) × (tag < 5) ⌝ }
+    ensures { λ r. ⌜ Operands (now (ws .entry)) i r (pairOf tag (termAt (now (ws .entry)) i)) ⌝ }
+{
+    if terms::tag(ws, i) == tag {
+        Pair::Nodes(terms::first(ws, i), terms::second(ws, i))
+    } else {
+        Pair::Misfit
+    }
+}
+
 // The two operands of node i, where it is of the operation.
 pub fn operands(ws: &[u32], i: usize, operation: Operation) -> Pair
     requires { ⌜ Formed (now ws) (suc i) ⌝ }
     ensures { λ r. ⌜ Operands (now (ws .entry)) i r (operandsFor operation (termAt (now (ws .entry)) i)) ⌝ }
 {
-    let node = terms::view(ws, i);
     match operation {
-        Operation::Sum => match node {
-            Node::Sum(left, right) => Pair::Nodes(left, right),
-            _ => Pair::Misfit,
-        },
-        Operation::Difference => match node {
-            Node::Difference(left, right) => Pair::Nodes(left, right),
-            _ => Pair::Misfit,
-        },
+        Operation::Sum => pair_of(ws, i, 2),
+        Operation::Difference => pair_of(ws, i, 3),
     }
 }
 
-// Two nodes before a pair of them.
-fn before(a: usize, b: usize, pair: Pair) -> Quadruple
-    ensures { λ r. ⌜ r ≡ beforePair a b pair ⌝ }
+// The two operands of node i, where it is a mask.
+pub fn masked(ws: &[u32], i: usize) -> Pair
+    requires { ⌜ Formed (now ws) (suc i) ⌝ }
+    ensures { λ r. ⌜ Operands (now (ws .entry)) i r (maskOf (termAt (now (ws .entry)) i)) ⌝ }
 {
-    let Pair::Nodes(c, d) = pair else {
-        return Quadruple::Misfit;
-    };
-    Quadruple::Nodes(a, b, c, d)
+    pair_of(ws, i, 4)
 }
 
-// The four operands of nodes i and j, where both are sums or both are differences.
-pub fn same_operation(ws: &[u32], i: usize, j: usize) -> Quadruple
+// The count and the operand of node i, where it is a shift.
+pub fn shifted(ws: &[u32], i: usize) -> Shift
+    requires { ⌜ Formed (now ws) (suc i) ⌝ }
+    ensures { λ r. ⌜ Shifts (now (ws .entry)) i r ⌝ }
+{
+    if terms::tag(ws, i) == 5 {
+        Shift::By(terms::second(ws, i) as u32, terms::first(ws, i))
+    } else {
+        Shift::Misfit
+    }
+}
+
+// What makes nodes i and j equal, where both are sums, differences or masks, or shifts by one count.
+pub fn same_operation(ws: &[u32], i: usize, j: usize) -> Congruence
     requires { ⌜ Formed (now ws) (suc i) ⌝ }
     requires { ⌜ Formed (now ws) (suc j) ⌝ }
-    ensures { λ r. ⌜ FourOperands (now (ws .entry)) i j r ⌝ }
+    ensures { λ r. ⌜ Congruent (now (ws .entry)) i j r ⌝ }
 {
-    match terms::view(ws, i) {
-        Node::Sum(a, b) => before(a, b, operands(ws, j, Operation::Sum)),
-        Node::Difference(a, b) => before(a, b, operands(ws, j, Operation::Difference)),
-        _ => Quadruple::Misfit,
+    let tag = terms::tag(ws, i);
+    if (tag < 2) | (terms::tag(ws, j) != tag) {
+        return Congruence::Misfit;
+    }
+    let a = terms::first(ws, i);
+    let b = terms::second(ws, i);
+    let c = terms::first(ws, j);
+    let d = terms::second(ws, j);
+    if tag < 5 {
+        return Congruence::Pairs(a, b, c, d);
+    }
+    if b == d {
+        Congruence::Single(a, c)
+    } else {
+        Congruence::Misfit
     }
 }
 
@@ -124,10 +158,7 @@ pub fn is_constant(ws: &[u32], i: usize, value: u32) -> bool
     requires { ⌜ Formed (now ws) (suc i) ⌝ }
     ensures { λ r. ⌜ r ≡ eqTerm (termAt (now (ws .entry)) i) (constant value) ⌝ }
 {
-    let Node::Constant(own) = terms::view(ws, i) else {
-        return false;
-    };
-    own == value
+    (terms::tag(ws, i) == 0) & (terms::value(ws, i) == value)
 }
 
 // Whether a comparison of two nodes is assumption k, node by node.

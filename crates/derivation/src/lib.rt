@@ -73,7 +73,10 @@ fn planned(
             let right = memory_rules::right_of(number);
             memory_rules::in_region(regions, scope.regions, ws, claim, right, value, top)
         }
-        _ => logic_rules::contradicted(value, top),
+        24 => logic_rules::contradicted(value, top),
+        25 => bit_rules::mask_at_most(ws, claim, top),
+        26 => bit_rules::shift_at_most(ws, claim, top),
+        _ => bit_rules::shift_bounded(ws, claim, top),
     }
 }
 

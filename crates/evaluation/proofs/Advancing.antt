@@ -1,18 +1,18 @@
 -- Laws of one instruction, one for each kind, and of the walk. Assumes nothing.
-use mathlib.Core.Path.{_≡_, sym, subst, _∙_}
+use mathlib.Core.Path.{_≡_, sym, ap, subst, _∙_}
 use mathlib.Core.List.{List, [], _∷_}
 use Prim.Native.Nat.{ℕ, _<_, _≤_}
 use native.Mathlib.Omega.{arith}
 use lib.ListN.{length}
 use Rattle.model.specs.Result.{value}
-use Rattle.model.specs.Term.{Term, constant, sum, difference}
+use Rattle.model.specs.Term.{Term}
 use Rattle.model.specs.Policy.{Policy}
 use Rattle.model.specs.Routine.{Routine}
 use Rattle.model.specs.Expression.{registerCount, atomsAt}
-use Rattle.model.specs.Goals.{Move, goes, ends, returning, onward, pathTo, loading, termOf, addressTerm, goalOf, readable, writable, jump, move}
+use Rattle.model.specs.Goals.{Move, goes, ends, returning, onward, pathTo, loading, addressTerm, goalOf, readable, writable, jump, assign, move}
 use Rattle.model.specs.declared.Comparison.the-variants.{Equal, Less}
 use Rattle.model.specs.declared.Instruction.{Instruction}
-use Rattle.model.specs.declared.Instruction.the-variants.{Set, Add, AddImmediate, Subtract, Load, Store, Jump, JumpLess, JumpEqual, Return}
+use Rattle.model.specs.declared.Instruction.the-variants.{Load, Store, Jump, JumpLess, JumpEqual, Return}
 use Rattle.model.specs.Package.{mostInstructions}
 use Rattle.routine.specs.Code.{Formed}
 use Rattle.claims.specs.Regions.{regionsOf}
@@ -34,27 +34,10 @@ pub formed-as : (n : ℕ) {x y : Instruction} → Formed n x → x ≡ y → For
 formed-as n f e = subst (Formed n) e f
 
 -- what the functions of the kinds ask of the fields
+pub first-two : {A B C : Type 0} → A × B × C → A × B
+first-two g = (g .0, g .1)
+
 module _ (n : ℕ) {instruction : Instruction} (f : Formed n instruction) where
-  pub set-asks : {d i : ℕ} → instruction ≡ Set d i → d < registerCount
-  set-asks e = formed-as n f e .0
-
-  module _ {d a b : ℕ} where
-    pub add-asks : instruction ≡ Add d a b → (d < registerCount) × (a < registerCount) × (b < registerCount)
-    add-asks e = formed-as n f e
-
-    pub subtract-asks : instruction ≡ Subtract d a b → (d < registerCount) × (a < registerCount) × (b < registerCount)
-    subtract-asks e = formed-as n f e
-
-  module _ {d a i : ℕ} where
-    pub add-immediate-asks : instruction ≡ AddImmediate d a i → (d < registerCount) × (a < registerCount)
-    add-immediate-asks e = let g = formed-as n f e in (g .0, g .1)
-
-    pub load-asks : instruction ≡ Load d a i → (d < registerCount) × (a < registerCount)
-    load-asks e = let g = formed-as n f e in (g .0, g .1)
-
-    pub store-asks : instruction ≡ Store d a i → a < registerCount
-    store-asks e = formed-as n f e .1
-
   module _ {i : ℕ} (h : n ≤ mostInstructions) where
     pub jump-asks : instruction ≡ Jump i → i ≤ mostInstructions
     jump-asks e = omega (arith, formed-as n f e)
@@ -90,23 +73,11 @@ module _ {bytes policyBytes regions indexes places : List ℕ} {setting : Settin
 
   -- ---- the kinds
   module _ {ws us : List ℕ} {path : Path} {credit : Term} {p : Progress} {r : Moved} {instruction : Instruction} where
-    module _ (h : Reached bytes p) {d : ℕ} where
-      pub set-moves : {i : ℕ} → instruction ≡ Set d i → Assigns ws us path d (constant i) p r → Advances ws us bytes policyBytes places setting credit path instruction p r
-      unfolding move
-      set-moves e z = moves-as (λ policy routine w. tt) (λ policy routine. rw e) (z .moves bytes credit h)
-
-      module _ {a : ℕ} where
-        pub add-immediate-moves : {i : ℕ} → instruction ≡ AddImmediate d a i → Assigns ws us path d (sum (termOf (pathOf ws path) a) (constant i)) p r → Advances ws us bytes policyBytes places setting credit path instruction p r
-        unfolding move
-        add-immediate-moves e z = moves-as (λ policy routine w. tt) (λ policy routine. rw e) (z .moves bytes credit h)
-
-        pub add-moves : {b : ℕ} → instruction ≡ Add d a b → Assigns ws us path d (sum (termOf (pathOf ws path) a) (termOf (pathOf ws path) b)) p r → Advances ws us bytes policyBytes places setting credit path instruction p r
-        unfolding move
-        add-moves e z = moves-as (λ policy routine w. tt) (λ policy routine. rw e) (z .moves bytes credit h)
-
-        pub subtract-moves : {b : ℕ} → instruction ≡ Subtract d a b → Assigns ws us path d (difference (termOf (pathOf ws path) a) (termOf (pathOf ws path) b)) p r → Advances ws us bytes policyBytes places setting credit path instruction p r
-        unfolding move
-        subtract-moves e z = moves-as (λ policy routine w. tt) (λ policy routine. rw e) (z .moves bytes credit h)
+    -- an assignment
+    pub assigns-moves : {d : ℕ} {t : Term} (named : Instruction) → Reached bytes p → instruction ≡ named → ((policy : Policy) (routine : Routine) → assign (pathOf ws path) d t ≡ move policy routine credit (pathOf ws path) named)
+        → Assigns ws us path d t p r → Advances ws us bytes policyBytes places setting credit path instruction p r
+    assigns-moves {d} {t} named h e k z =
+        moves-as (λ policy routine w. tt) (λ policy routine. k policy routine ∙ ap (move policy routine credit (pathOf ws path)) (sym e)) (z .moves bytes credit h)
 
     module _ {d a i : ℕ} where
       pub load-moves : instruction ≡ Load d a i

@@ -11,7 +11,9 @@ use moves::Moved;
 use moves::MovedAnswer;
 use moves::accesses;
 use moves::assignments;
-use moves::assignments::Operation;
+use moves::assignments::DIFFERENCE;
+use moves::assignments::MASK;
+use moves::assignments::SUM;
 use paths::Path;
 use routine::instructions;
 use routine::instructions::InstructionAnswer;
@@ -64,14 +66,12 @@ fn advance(
     let count = policy.count;
     match instruction {
         Instruction::Set { d, i } => assignments::set(ws, path, d, i, progress),
-        Instruction::Add { d, a, b } => {
-            assignments::combine(ws, path, Operation::Add, d, a, b, progress)
-        }
+        Instruction::Add { d, a, b } => { assignments::combine(ws, path, SUM, d, a, b, progress) }
         Instruction::AddImmediate { d, a, i } => {
-            assignments::add_immediate(ws, path, d, a, i, progress)
+            assignments::combine_immediate(ws, path, SUM, d, a, i, progress)
         }
         Instruction::Subtract { d, a, b } => {
-            assignments::combine(ws, path, Operation::Subtract, d, a, b, progress)
+            assignments::combine(ws, path, DIFFERENCE, d, a, b, progress)
         }
         Instruction::Load { d, a, i } => {
             accesses::load(bytes, regions, count, ws, path, d, a, i, progress)
@@ -133,6 +133,10 @@ fn advance(
             path,
             progress,
         ),
+        Instruction::Mask { d, a, i } => {
+            assignments::combine_immediate(ws, path, MASK, d, a, i, progress)
+        }
+        Instruction::Shift { d, a, i } => assignments::shift(ws, path, d, a, i, progress),
     }
 }
 

@@ -1,4 +1,4 @@
--- The laws of `nodesAt`, one for each way out of `variable` and `nodes`. Assumes nothing.
+-- The laws of `nodesAt`, one for each way out of `variable`, `count` and `nodes`. Assumes nothing.
 use Prim.Native.Nat.{ℕ, zero, suc, _+_, _-_, _≤_, _<_}
 use mathlib.Core.Path.{_≡_, refl, sym, ap, _∙_}
 use mathlib.Core.Logic.{⊎-elim}
@@ -11,13 +11,12 @@ use denote.Enum.Declared.{tagOf}
 use borrow.Author.Tests.{le-leb, lt-leb, lt-ltb, le-ltb}
 use Rattle.model.specs.Result.{stop, value, _>>=_, check, found}
 use Rattle.model.specs.Word.{le16}
-use Rattle.model.specs.Term.{Term, sum, difference}
+use Rattle.model.specs.Term.{Term, sum, difference, mask, shift}
 use Rattle.model.specs.Field.{missing, fault, byteAt, halfAt, wordAt}
-use Rattle.model.specs.Expression.{Form, four-byte-constant, two-byte-variable, two-expressions, forms, Nodes, nodeOf, nodesAt}
+use Rattle.model.specs.Expression.{Form, four-byte-constant, two-byte-variable, two-expressions, count-and-expression, forms, mostCount, Nodes, nodeOf, nodesAt}
 use Rattle.expressions.specs.declared.scanning.Scanned.{Scanned}
 use Rattle.expressions.specs.declared.scanning.Scanned.the-variants.{Nodes as Whole, Missing, Fault}
-use Rattle.expressions.specs.Scanning.{scannedOf, Within, ScansNode, Scans}
-use Rattle.expressions.specs.Reading.{apart}
+use Rattle.expressions.specs.Scanning.{scannedOf, Within, goingOn, ScansNode, ScansCount, Scans}
 use Rattle.expressions.proofs.scanning.Scanned.{the-type}
 
 -- there is nothing past a list's end
@@ -47,13 +46,14 @@ pair operation x second = do
   (t, r, left′) ← second left q
   value (operation s t, r, left′)
 
--- tags 2 and 3 have two operands
-pair-form : (tag : ℕ) → (tag ≡ 0 → ⊥) → (tag ≡ 1 → ⊥) → tag < 4 → (operation : Term → Term → Term) × (getElem? forms tag ≡ some (two-expressions operation))
+-- tags 2, 3 and 4 have two operands
+pair-form : (tag : ℕ) → (tag ≡ 0 → ⊥) → (tag ≡ 1 → ⊥) → tag < 5 → (operation : Term → Term → Term) × (getElem? forms tag ≡ some (two-expressions operation))
 pair-form zero z o h = absurd (z refl)
 pair-form (suc zero) z o h = absurd (o refl)
 pair-form (suc (suc zero)) z o h = (sum, refl)
 pair-form (suc (suc (suc zero))) z o h = (difference, refl)
-pair-form (suc (suc (suc (suc k)))) z o h = absurd (omega arith)
+pair-form (suc (suc (suc (suc zero)))) z o h = (mask, refl)
+pair-form (suc (suc (suc (suc (suc k))))) z o h = absurd (omega arith)
 
 -- the term does not show
 same-scan : (f : Term → Term) (x : Nodes) → scannedOf x ≡ scannedOf (x >>= λ y. value (f (y .0), y .1, y .2))
@@ -62,40 +62,50 @@ same-scan f (stop missing) = refl
 same-scan f (stop (fault p)) = refl
 same-scan f (value y) = refl
 
--- a pair is what its second operand is, or its first where that stops, told by its tag
-module _ (operation : Term → Term → Term) where
-  pair-read : (x : Nodes) (second : Reader) (q left : ℕ) → Whole q left ≡ scannedOf x → scannedOf (second left q) ≡ scannedOf (pair operation x second)
-  unfolding scannedOf _>>=_
-  pair-read (stop missing) second q left e = apart (cc)
-  pair-read (stop (fault p)) second q left e = apart (cc)
-  pair-read (value (s, q′, left′)) second q left e =
-      let eq : q ≡ q′ = cc in
-      let el : left ≡ left′ = cc in
-      rw (eq, el) (same-scan (operation s) (second left′ q′))
+-- a pair goes on with its second operand where its first ends
+pair-goes : (operation : Term → Term → Term) (x : Nodes) (second : Reader) → goingOn (scannedOf x) second ≡ scannedOf (pair operation x second)
+unfolding scannedOf _>>=_
+pair-goes operation (stop missing) second = refl
+pair-goes operation (stop (fault p)) second = refl
+pair-goes operation (value (s, q, left)) second = same-scan (operation s) (second left q)
 
-  pair-stops : (x : Nodes) (second : Reader) (r : Scanned) → r ≡ scannedOf x → OneOf (1 ∷ 2 ∷ []) (tagOf the-type r) → r ≡ scannedOf (pair operation x second)
-  unfolding scannedOf _>>=_
-  pair-stops (stop missing) second r e t = e
-  pair-stops (stop (fault p)) second r e t = e
-  pair-stops (value y) second (Whole q l) e t = absurd (⊎-elim (λ z. omega arith) (λ z. omega arith) t)
-  pair-stops (value y) second Missing e t = apart (cc)
-  pair-stops (value y) second (Fault p) e t = apart (cc)
+-- what stops, told by its tag, does not go on
+stays : (r : Scanned) (operand : Reader) → OneOf (1 ∷ 2 ∷ []) (tagOf the-type r) → r ≡ goingOn r operand
+stays (Whole q l) operand t = absurd (⊎-elim (λ z. omega arith) (λ z. omega arith) t)
+stays Missing operand t = refl
+stays (Fault p) operand t = refl
 
 -- ---- bounds
-
-stopped-within : (end left : ℕ) (r : Scanned) → OneOf (1 ∷ 2 ∷ []) (tagOf the-type r) → Within end left r
-stopped-within end left (Whole q l) t = absurd (⊎-elim (λ z. omega arith) (λ z. omega arith) t)
-stopped-within end left Missing t = tt
-stopped-within end left (Fault p) t = tt
 
 less-within : (end few left : ℕ) (r : Scanned) → few ≤ left → Within end few r → Within end left r
 less-within end few left (Whole q l) h w = (w .0, omega arith)
 less-within end few left Missing h w = tt
 less-within end few left (Fault p) h w = tt
 
--- the second operand has fewer nodes left than the first
-pub rest-less : {bytes : List ℕ} {end limit left p : ℕ} {first : Scanned} {next rest : ℕ} → Scans bytes end limit left p first → first ≡ Whole next rest → rest < left
-rest-less {end = end} {left = left} {next = next} {rest = rest} F e = let w : Within end left (Whole next rest) = rw e at (F .within) in w .1
+-- the operand that follows has fewer nodes left than there were
+pub rest-less : (end left next rest : ℕ) (first : Scanned) → Within end left first → first ≡ Whole next rest → rest < left
+rest-less end left next rest first w e = let v : Within end left (Whole next rest) = rw e at w in v .1
+
+module _ (bytes : List ℕ) (end left at : ℕ) where
+  -- ---- the ways out of `count`
+
+  pub short-count : end ≤ at + 1 → ScansCount bytes end left at Missing
+  unfolding nodeOf _>>=_ scannedOf
+  short-count h = record { answer = λ limit operand. rw (byte-missing bytes end (at + 1) h, nodeOf); within = tt }
+
+  pub large-count : at + 1 < end → mostCount < getD bytes (at + 1) 0 → ScansCount bytes end left at (Fault (at + 1))
+  unfolding nodeOf check _>>=_ scannedOf
+  large-count h v = record {
+    answer = λ limit operand. rw (byte-there bytes end (at + 1) h, lt-leb (getD bytes (at + 1) 0) mostCount v, nodeOf);
+    within = tt;
+  }
+
+  pub whole-count : at + 1 < end → getD bytes (at + 1) 0 ≤ mostCount → 0 < left → ScansCount bytes end left at (Whole (at + 2) (left - 1))
+  unfolding nodeOf check _>>=_
+  whole-count h v l = record {
+    answer = λ limit operand. rw (byte-there bytes end (at + 1) h, le-leb (getD bytes (at + 1) 0) mostCount v, nodeOf) (same-scan (shift (getD bytes (at + 1) 0)) (operand (left - 1) (at + 2)));
+    within = (omega arith, omega arith);
+  }
 
 module _ (bytes : List ℕ) (end limit left at : ℕ) where
   -- ---- the ways out of `variable`
@@ -139,6 +149,34 @@ module _ (bytes : List ℕ) (end limit left at : ℕ) where
         within = tt;
       }
 
+  -- a node of which a part is scanned, and how it goes on
+  pub record Opens (first : Scanned) : Type 0 where
+    pub form : Form
+    pub known : getElem? forms (getD bytes at 0) ≡ some form
+    pub answer : (depth : ℕ) → left ≤ suc depth → goingOn first (operandAt depth) ≡ scannedOf (nodeOf bytes end limit (operandAt depth) form left at)
+    pub within : Within end left first
+
+  -- the first of two operands
+  pub pair-opens : (getD bytes at 0 ≡ 0 → ⊥) → (getD bytes at 0 ≡ 1 → ⊥) → getD bytes at 0 < 5 → (first : Scanned) → Scans bytes end limit (left - 1) (at + 1) first → Opens first
+  unfolding nodeOf
+  pair-opens z o h first F =
+      let operation = pair-form (getD bytes at 0) z o h in
+      record {
+        form = two-expressions (operation .0);
+        known = operation .1;
+        answer = λ depth l. ap (λ r. goingOn r (operandAt depth)) (F .answer depth (omega arith)) ∙ pair-goes (operation .0) (operandAt depth (left - 1) (at + 1)) (operandAt depth);
+        within = less-within end (left - 1) left first (omega arith) (F .within);
+      }
+
+  -- the count of a shift
+  pub count-opens : getD bytes at 0 ≡ 5 → (first : Scanned) → ScansCount bytes end left at first → Opens first
+  count-opens e first C = record {
+    form = count-and-expression shift;
+    known = rw e;
+    answer = λ depth l. C .answer limit (operandAt depth);
+    within = C .within;
+  }
+
   module _ (here : at < end) (some-left : left ≡ 0 → ⊥) where
     -- the expression is what stands after its tag
     after-tag : (x : Reader → Nodes)
@@ -150,10 +188,10 @@ module _ (bytes : List ℕ) (end limit left at : ℕ) where
     after-tag x e r k (suc depth) l =
         k depth l ∙ ap scannedOf (e (operandAt depth) ∙ rw (byte-there bytes end at here, lt-ltb 0 left (omega arith), nodesAt))
 
-    pub no-tag : 4 ≤ getD bytes at 0 → Scans bytes end limit left at (Fault at)
+    pub no-tag : 5 ≤ getD bytes at 0 → (getD bytes at 0 ≡ 5 → ⊥) → Scans bytes end limit left at (Fault at)
     unfolding found _>>=_ scannedOf
-    no-tag h = record {
-      answer = after-tag (λ operand. stop (fault at)) (λ operand. rw (past forms (getD bytes at 0) h)) (Fault at) (λ depth l. refl);
+    no-tag h five = record {
+      answer = after-tag (λ operand. stop (fault at)) (λ operand. rw (past forms (getD bytes at 0) (omega arith))) (Fault at) (λ depth l. refl);
       within = tt;
     }
 
@@ -179,28 +217,19 @@ module _ (bytes : List ℕ) (end limit left at : ℕ) where
     pub variable-node : getD bytes at 0 ≡ 1 → (r : Scanned) → ScansNode bytes end limit two-byte-variable left at r → Scans bytes end limit left at r
     variable-node e r n = of-form two-byte-variable (rw e) r n
 
-    -- a node of two operands, of which the first is scanned
-    module _ (z : getD bytes at 0 ≡ 0 → ⊥) (o : getD bytes at 0 ≡ 1 → ⊥) (h : getD bytes at 0 < 4) (first : Scanned) (F : Scans bytes end limit (left - 1) (at + 1) first) where
-      of-pair : (r : Scanned)
-          → ((depth : ℕ) → left ≤ suc depth → (operation : Term → Term → Term) → r ≡ scannedOf (pair operation (operandAt depth (left - 1) (at + 1)) (operandAt depth)))
-          → (depth : ℕ) → left ≤ depth → r ≡ scannedOf (nodesAt bytes end limit depth left at)
-      unfolding found _>>=_ nodeOf
-      of-pair r k =
-          let form = pair-form (getD bytes at 0) z o h in
-          after-tag (λ operand. pair (form .0) (operand (left - 1) (at + 1)) operand) (λ operand. rw (form .1)) r (λ depth l. k depth l (form .0))
+    -- a part that stops, and one that an operand follows
+    module _ (first : Scanned) (O : Opens first) where
+      from-opening : (r : Scanned) → ((depth : ℕ) → left ≤ suc depth → r ≡ goingOn first (operandAt depth)) → (depth : ℕ) → left ≤ depth → r ≡ scannedOf (nodesAt bytes end limit depth left at)
+      unfolding found _>>=_
+      from-opening r k = after-tag (λ operand. nodeOf bytes end limit operand (O .form) left at) (λ operand. rw (O .known)) r (λ depth l. k depth l ∙ O .answer depth l)
 
       pub first-stops : OneOf (1 ∷ 2 ∷ []) (tagOf the-type first) → Scans bytes end limit left at first
-      first-stops t = record {
-        answer = of-pair first (λ depth l operation. pair-stops operation (operandAt depth (left - 1) (at + 1)) (operandAt depth) first (F .answer depth (omega arith)) t);
-        within = stopped-within end left first t;
-      }
+      first-stops t = record { answer = from-opening first (λ depth l. stays first (operandAt depth) t); within = O .within }
 
       pub both : (next rest : ℕ) → first ≡ Whole next rest → (second : Scanned) → Scans bytes end limit rest next second → Scans bytes end limit left at second
       both next rest e second S =
-          let l = rest-less F e in
+          let l = rest-less end left next rest first (O .within) e in
           record {
-            answer = of-pair second (λ depth d operation.
-                S .answer depth (omega arith)
-                ∙ pair-read operation (operandAt depth (left - 1) (at + 1)) (operandAt depth) next rest (sym e ∙ F .answer depth (omega arith)));
+            answer = from-opening second (λ depth d. S .answer depth (omega arith) ∙ ap (λ r. goingOn r (operandAt depth)) (sym e));
             within = less-within end rest left second (omega arith) (S .within);
           }

@@ -1,8 +1,12 @@
 // The recursive reader of an expression's nodes. The bytes run to `end`, and variables are below `limit`.
+use limits::MOST_COUNT;
 ghost use Prim.Native.Nat.{_≤_, _<_};
 ghost use lib.ListN.{length};
 ghost use Rattle.model.specs.Expression.{two-byte-variable};
-ghost use Rattle.expressions.specs.Scanning.{Scans, ScansNode};
+ghost use Rattle.expressions.specs.Scanning.{Scans, ScansNode, ScansCount};
+
+// The count of a shift is at most this.
+const COUNT: u8 = MOST_COUNT as u8;
 
 // What scanning the nodes of an expression finds: the next position and how many nodes are left then; bytes missing; a fault at a place.
 pub enum Scanned {
@@ -23,6 +27,24 @@ fn variable(bytes: &[u8], end: usize, limit: usize, at: usize, left: usize) -> S
     } else {
         Scanned::Nodes {
             next: at + 3,
+            left: left - 1,
+        }
+    }
+}
+
+// Where the operand of the shift whose tag is at `at` starts, after its count, with `left` nodes left before the shift.
+fn count(bytes: &[u8], end: usize, at: usize, left: usize) -> Scanned
+    requires { ⌜ (at < end) × (end ≤ length (now bytes)) × (0 < left) ⌝ }
+    ensures { λ r. ⌜ ScansCount (now (bytes .entry)) end left at r ⌝ }
+{
+    let place = at + 1;
+    if end <= place {
+        Scanned::Missing
+    } else if COUNT < bytes[place] {
+        Scanned::Fault(place)
+    } else {
+        Scanned::Nodes {
+            next: at + 2,
             left: left - 1,
         }
     }
@@ -51,12 +73,19 @@ pub(crate) fn nodes(bytes: &[u8], end: usize, limit: usize, at: usize, left: usi
             }
         }
         1 => variable(bytes, end, limit, at, left),
-        2..=3 => {
+        2..=4 => {
             let first = nodes(bytes, end, limit, at + 1, left - 1);
             let Scanned::Nodes { next, left: rest } = first else {
                 return first;
             };
             nodes(bytes, end, limit, next, rest)
+        }
+        5 => {
+            let counted = count(bytes, end, at, left);
+            let Scanned::Nodes { next, left: few } = counted else {
+                return counted;
+            };
+            nodes(bytes, end, limit, next, few)
         }
         _ => Scanned::Fault(at),
     }

@@ -1,10 +1,10 @@
-// Numbers in files, low byte first, and words modulo 2^32.
+// Numbers in files, low byte first, and the operations on words.
 pub mod kinds;
 
 ghost use mathlib.Core.Path.{_≡_};
 ghost use Prim.Native.Nat.{_+_, _≤_, _<_};
 ghost use lib.ListN.{length};
-ghost use Rattle.model.specs.Word.{addW, subW, le16, le32};
+ghost use Rattle.model.specs.Word.{addW, subW, maskW, shiftW, le16, le32};
 
 // A word as a position or a count.
 pub fn wide(x: u32) -> usize
@@ -67,4 +67,21 @@ pub fn sub(a: u32, b: u32) -> u32
     ensures { λ r. ⌜ r ≡ subW a b ⌝ }
 {
     std::num::wrapping_sub_u32(a, b)
+}
+
+// The bits that both words have.
+pub fn mask(a: u32, b: u32) -> u32
+    ensures { λ r. ⌜ r ≡ maskW a b ⌝ }
+{
+    a & b
+}
+
+// The word shifted right; 32 bits and more leave nothing of it.
+pub fn shift(a: u32, count: u32) -> u32
+    ensures { λ r. ⌜ r ≡ shiftW count a ⌝ }
+{
+    if 32 <= count {
+        return 0;
+    }
+    a >> count
 }

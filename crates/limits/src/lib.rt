@@ -1,4 +1,4 @@
-// The limits of document 01 as constants of code. Each has the value of the model's definition that is named beside it; functions that use
+// The limits of documents 01 and 02 as constants of code. Each has the value of the model's definition that is named beside it; functions that use
 // one are proved against that definition.
 
 // mostInstructions: instructions of a routine.
@@ -24,6 +24,9 @@ pub const REGISTERS: usize = 16;
 
 // mostNodes: nodes of an expression.
 pub const MOST_NODES: u32 = 31;
+
+// mostCount: bits that a shift may shift by.
+pub const MOST_COUNT: u32 = 31;
 
 // mostTermNodes: nodes of a register's term.
 pub const MOST_TERM_NODES: u32 = 255;

@@ -1,6 +1,6 @@
 -- Laws of the coefficient area: one for each way out. Assumes nothing.
 use mathlib.Core.Path.{_≡_, refl, sym, ap, subst, _∙_}
-use mathlib.Core.Logic.{_≢_}
+use mathlib.Core.Logic.{_≢_, _⊎_, ⊎-elim}
 use mathlib.Core.Bool.{Bool, true, false, not, _&&_}
 use mathlib.Core.List.{List}
 use Prim.Native.Nat.{ℕ, suc, _+_, _^_, _≤_, _<_, max}
@@ -8,21 +8,24 @@ use native.Mathlib.Numerals.{add-one}
 use native.Mathlib.Omega.{arith}
 use native.Mathlib.Decide.{decLt, ℕ-discrete}
 use lib.ListN.{length, getD, set, length-set}
-use lib.Seq.{getD-set-same, getD-set-other, ext-getD}
+use lib.Seq.{getD-set-same, getD-set-other}
 use lib.Dec.{eqb}
 use borrow.Author.Tests.{eqb-true}
+use denote.Enum.Declared.{tagOf as variant, declared}
 use Rattle.model.specs.Term.{Term, constant, variable, sum, difference}
-use Rattle.model.specs.Linear.{variableBound, sameForm}
-use Rattle.workspace.specs.Layout.{tableBase, Same, constantWord, areaWords}
-use Rattle.terms.specs.Table.{high, place, marksAt, viewOf, termAt, Formed}
+use Rattle.model.specs.Linear.{variableBound, coefficientOf, sameForm}
+use Rattle.model.proofs.Terms.{and-left, and-right}
+use Rattle.workspace.specs.Layout.{tableBase, Same, constantWord, areaWords, hintBase}
+use Rattle.terms.specs.Table.{high, place, marksAt, viewOf, build, termAt, plain, Formed}
 use Rattle.terms.specs.declared.Node.{Node}
-use Rattle.terms.specs.declared.Node.the-variants.{Constant, Variable, Sum, Difference}
+use Rattle.terms.specs.declared.Node.the-variants.{Constant, Variable, Sum, Difference, Mask, Shift}
+use Rattle.terms.proofs.Node.{enum as node-enum}
 use Rattle.workspace.proofs.Frames.{same-refl, same-within, same-trans}
 use Rattle.terms.proofs.Table.{node-order, node-built, part, same-terms, term-same, formed-same}
-use Rattle.linear.specs.Area.{formAt, signed, Bounded, Accumulated, Cleared, Comparable, allZero, Taken, Emptied}
-use Rattle.linear.specs.Weights.{Reckoned}
+use Rattle.linear.specs.Area.{formAt, signed, Bounded, Tree, Accumulated, Cleared, Comparable, allZero, Taken, Emptied}
+use Rattle.linear.specs.Weights.{opaque, Unlike, Reckoned}
 use Rattle.linear.specs.Comparison.{comparisonOf}
-use Rattle.linear.proofs.Forms.{signed-zero, constant-here, constant-else, variable-here, variable-else, word-sum, word-difference, zeros-same-form, zero-beyond, same-form-refl}
+use Rattle.linear.proofs.Forms.{signed-zero, constant-here, constant-else, variable-here, variable-else, word-sum, word-difference, zeros-same-form, zero-beyond, same-form-refl, plain-coefficient, clash}
 
 -- ---- words that keep the area, or the table
 pub cleared-same : {ws us : List ℕ} → Same 0 areaWords ws us → Cleared ws → Cleared us
@@ -34,13 +37,13 @@ bounded-same {ws} {us} {i} s e h = record { formed = formed-same (suc i) s e (h 
 -- accumulating keeps the table
 module _ {ws us : List ℕ} {n : Bool} {t : Term} (a : Accumulated ws us n t) {i : ℕ} where
   table-kept : Formed ws (suc i) → Same tableBase (place (suc i)) ws us
-  table-kept f = same-within tableBase (place (suc i)) (omega arith) (omega (arith, f .room)) (a .above)
+  table-kept f = same-within tableBase (place (suc i)) (omega arith) (omega (arith, f .shaped .words, f .shaped .fits)) (a .above)
 
   term-kept : Formed ws (suc i) → termAt us i ≡ termAt ws i
   term-kept f = term-same (suc i) (table-kept f) i (omega arith)
 
-  pub bounded-kept : {b : ℕ} → Bounded ws i b → Bounded us i b
-  bounded-kept h = bounded-same (table-kept (h .formed)) (a .long) h
+  pub tree-kept : {b : ℕ} → Tree ws i b → Tree us i b
+  tree-kept h = record { formed = formed-same (suc i) (table-kept (h .formed)) (a .long) (h .formed); within = rw (term-kept (h .formed)) (h .within); plain-term = rw (term-kept (h .formed)) (h .plain-term) }
 
 pub bounded-more : {ws : List ℕ} {i b : ℕ} (c : ℕ) → b ≤ c → Bounded ws i b → Bounded ws i c
 bounded-more c l h = record { formed = h .formed; within = omega (arith, h .within) }
@@ -48,32 +51,48 @@ bounded-more c l h = record { formed = h .formed; within = omega (arith, h .with
 -- ---- node i has two parts, of which the first is accumulated and then the second
 pub record Parts (ws : List ℕ) (i b l r : ℕ) : Type 0 where
   pub order : (l < i) × (r < i)
-  pub left : Bounded ws l b
-  pub right : Bounded ws r b
+  pub left : Tree ws l b
+  pub right : Tree ws r b
 
 module _ {ws : List ℕ} {i t l r b : ℕ} (e : i ≡ t) (p : Parts ws i b l r) where
-  pub first : (l < t) × Bounded ws l b
-  first = (omega arith, p .left)
+  pub first : (l < t) × Tree ws l b
+  first = (omega (arith, p .order), p .left)
 
-  pub second : {us : List ℕ} {n : Bool} {q : Term} → Accumulated ws us n q → (r < t) × Bounded us r b
-  second a = (omega arith, bounded-kept a (p .right))
+  pub second : {us : List ℕ} {n : Bool} {q : Term} → Accumulated ws us n q → (r < t) × Tree us r b
+  second a = (omega (arith, p .order), tree-kept a (p .right))
 
 -- node i as an arm of `match view(..)` knows it
-module _ {ws : List ℕ} {i b : ℕ} (h : Bounded ws i b) {m : Node} (v : m ≡ viewOf ws i) where
-  parts : {l r : ℕ} → (l < i) × (r < i) → max (variableBound (termAt ws l)) (variableBound (termAt ws r)) ≤ b → Parts ws i b l r
-  parts o k = record {
+abbrev shape : Node → ℕ
+shape n = variant (declared node-enum) n
+
+module _ {ws : List ℕ} {i b : ℕ} (h : Tree ws i b) {m : Node} (v : m ≡ viewOf ws i) where
+  parts : {l r : ℕ} → (l < i) × (r < i) → max (variableBound (termAt ws l)) (variableBound (termAt ws r)) ≤ b → (plain (termAt ws l) && plain (termAt ws r)) ≡ true → Parts ws i b l r
+  parts {l} {r} o k p = record {
     order = o;
-    left = record { formed = part (h .formed) (o .0); within = omega arith };
-    right = record { formed = part (h .formed) (o .1); within = omega arith };
+    left = record { formed = part (h .formed) (o .0); within = omega arith; plain-term = and-left (plain (termAt ws l)) (plain (termAt ws r)) p };
+    right = record { formed = part (h .formed) (o .1); within = omega arith; plain-term = and-right (plain (termAt ws l)) (plain (termAt ws r)) p };
   }
 
   pub sum-parts : {l r : ℕ} → m ≡ Sum l r → Parts ws i b l r
-  unfolding variableBound
-  sum-parts a = parts (node-order (h .formed) v a) (rw (node-built (h .formed) v a) at (h .within))
+  unfolding variableBound plain
+  sum-parts a = parts (node-order (h .formed) v a) (rw (node-built (h .formed) v a) at (h .within)) (rw (node-built (h .formed) v a) at (h .plain-term))
 
   pub difference-parts : {l r : ℕ} → m ≡ Difference l r → Parts ws i b l r
-  unfolding variableBound
-  difference-parts a = parts (node-order (h .formed) v a) (rw (node-built (h .formed) v a) at (h .within))
+  unfolding variableBound plain
+  difference-parts a = parts (node-order (h .formed) v a) (rw (node-built (h .formed) v a) at (h .within)) (rw (node-built (h .formed) v a) at (h .plain-term))
+
+  -- no mask and no shift
+  no-opaque : (n : Node) → (shape n ≡ 4) ⊎ (shape n ≡ 5) → plain (build (termAt ws) n) ≡ true → ⊥
+  unfolding plain
+  no-opaque (Constant c) o p = ⊎-elim (λ e. omega arith) (λ e. omega arith) o
+  no-opaque (Variable x) o p = ⊎-elim (λ e. omega arith) (λ e. omega arith) o
+  no-opaque (Sum l r) o p = ⊎-elim (λ e. omega arith) (λ e. omega arith) o
+  no-opaque (Difference l r) o p = ⊎-elim (λ e. omega arith) (λ e. omega arith) o
+  no-opaque (Mask l r) o p = clash refl p
+  no-opaque (Shift c l) o p = clash refl p
+
+  pub not-opaque : {A : Type 0} → (shape m ≡ 4) ⊎ (shape m ≡ 5) → A
+  not-opaque o = absurd (no-opaque m o (rw (node-built (h .formed) v refl) at (h .plain-term)))
 
   pub variable-within : {x : ℕ} → m ≡ Variable x → x < b
   unfolding variableBound
@@ -114,17 +133,17 @@ accumulated-both n t a b w = record {
   long = b .long ∙ a .long;
 }
 
-module _ {ws us : List ℕ} {i b : ℕ} {n : Bool} (h : Bounded ws i b) {m : Node} (v : m ≡ viewOf ws i) where
+module _ {ws us : List ℕ} {i b : ℕ} {n : Bool} (h : Tree ws i b) {m : Node} (v : m ≡ viewOf ws i) where
   module _ (words : (k : ℕ) → getD ws k 0 < 2 ^ 32) where
     pub accumulated-constant : {c : ℕ} → m ≡ Constant c → c < 2 ^ 32 → us ≡ set ws constantWord (signed n (getD ws constantWord 0) c) → Accumulated ws us n (termAt ws i)
     accumulated-constant {c} a l s =
         rw (node-built (h .formed) v a)
-        (changed (constant c) constantWord c (omega arith) (omega (arith, h .formed .room)) s words (constant-here c l) (λ k d e. constant-else k c d e))
+        (changed (constant c) constantWord c (omega arith) (omega (arith, h .formed .shaped .words, h .formed .shaped .fits)) s words (constant-here c l) (λ k d e. constant-else k c d e))
 
     pub accumulated-variable : {x p : ℕ} → m ≡ Variable x → x < constantWord → p ≡ x → us ≡ set ws p (signed n (getD ws p 0) 1) → Accumulated ws us n (termAt ws i)
     accumulated-variable {x} {p} a l d s =
         rw (node-built (h .formed) v a, ← d)
-        (changed (variable p) p 1 (omega arith) (omega (arith, h .formed .room)) s words (variable-here p (omega arith)) (λ k e f. variable-else k p f))
+        (changed (variable p) p 1 (omega arith) (omega (arith, h .formed .shaped .words, h .formed .shaped .fits)) s words (variable-here p (omega arith)) (λ k e f. variable-else k p f))
 
   module _ {vs : List ℕ} {l r : ℕ} (f : Accumulated ws us n (termAt ws l)) where
     pub accumulated-sum : m ≡ Sum l r → Accumulated us vs n (termAt us r) → Accumulated ws vs n (termAt ws i)
@@ -169,35 +188,64 @@ emptied {ws} {us} {vs} {n} few room t e s = record {
 
 -- ---- compared
 -- the same node stands for both
-pub same-twins : {ws : List ℕ} {i j n : ℕ} {r : Bool} → Comparable ws i j n → r ≡ eqb (high (marksAt ws i)) (high (marksAt ws j)) → r ≡ true → (comparisonOf true ≡ comparisonOf (sameForm (termAt ws i) (termAt ws j))) × (ws ≡ ws)
+pub same-twins : {ws : List ℕ} {i j n : ℕ} {r : Bool} → Comparable ws i j n → r ≡ eqb (high (marksAt ws i)) (high (marksAt ws j)) → r ≡ true → (comparisonOf true ≡ comparisonOf (sameForm (termAt ws i) (termAt ws j))) × Same 0 hintBase ws ws
 same-twins {ws} {i} {j} c e h =
-    let t : termAt ws i ≡ termAt ws j = same-terms (c .left .formed) (c .right .formed) (eqb-true (high (marksAt ws i)) (high (marksAt ws j)) (sym e ∙ h)) in
-    (rw (t, same-form-refl (termAt ws j)), refl)
+    let t : termAt ws i ≡ termAt ws j = same-terms (c .left .formed .shaped) (c .right .formed .shaped) (eqb-true (high (marksAt ws i)) (high (marksAt ws j)) (sym e ∙ h)) in
+    (rw (t, same-form-refl (termAt ws j)), same-refl 0 hintBase ws)
 
 -- every variable below the constant's word may stand in the terms
 pub comparable-most : {ws : List ℕ} {i j n : ℕ} → Comparable ws i j n → Comparable ws i j constantWord
 comparable-most c = record { few = omega arith; left = bounded-more constantWord (c .few) (c .left); right = bounded-more constantWord (c .few) (c .right); cleared = c .cleared }
 
+-- the first of three that hold
+pub first-holds : (a b c : Bool) → (a && b && c) ≡ true → a ≡ true
+first-holds a b c h = and-left a b (and-left (a && b) c h)
+
+pub plain-pair : (s t : Term) {p q : Bool} → p ≡ plain s → q ≡ plain t → (p && q) ≡ true → (plain s && plain t) ≡ true
+plain-pair s t d e h = rw (← d, ← e) h
+
 -- the terms walked as trees
-pub reckoned-trees : {ws us vs : List ℕ} {i j : ℕ} → Comparable ws i j constantWord → Accumulated ws us false (termAt ws i) → Accumulated us vs true (termAt us j) → Reckoned ws vs (termAt ws i) (termAt ws j)
-reckoned-trees c a b = record {
-  area = λ p l. b .area p l ∙ rw (a .area p l, c .cleared .word p l, term-kept a (c .right .formed));
-  above = above-both a b;
-  long = b .long ∙ a .long;
-}
+module _ {ws : List ℕ} {i j : ℕ} {p q : Bool} (c : Comparable ws i j constantWord) (hp : p ≡ plain (termAt ws i)) (hq : q ≡ plain (termAt ws j)) (h : (p && q) ≡ true) where
+  pub plain-first : plain (termAt ws i) ≡ true
+  plain-first = sym hp ∙ and-left p q h
 
-module _ {ws vs xs : List ℕ} {i j n : ℕ} {r : Bool} (c : Comparable ws i j n) (a : Reckoned ws vs (termAt ws i) (termAt ws j)) (e : Emptied vs xs n r) where
-  answered : r ≡ sameForm (termAt ws i) (termAt ws j)
-  answered = e .is ∙ zeros-same-form (termAt ws i) (termAt ws j) vs (a .area) n (c .few) (c .left .within) (c .right .within)
+  pub plain-second : plain (termAt ws j) ≡ true
+  plain-second = sym hq ∙ and-right p q h
 
-  restored : xs ≡ ws
-  restored = ext-getD 0 xs ws (e .long ∙ a .long) (λ p l. go p (omega (arith, e .long, a .long)) (decLt p n) (decLt p constantWord) (ℕ-discrete p constantWord))
+  pub first-tree : Tree ws i constantWord
+  first-tree = record { formed = c .left .formed; within = c .left .within; plain-term = plain-first }
+
+  pub second-tree : {us : List ℕ} {n : Bool} {t : Term} → Accumulated ws us n t → Tree us j constantWord
+  second-tree a = tree-kept a (record { formed = c .right .formed; within = c .right .within; plain-term = plain-second })
+
+  -- no masked or shifted term has a coefficient
+  pub plain-agree : (x : Term) → opaque x ≡ true → coefficientOf x (termAt ws i) ≡ coefficientOf x (termAt ws j)
+  plain-agree x o = plain-coefficient x (termAt ws i) o plain-first ∙ sym (plain-coefficient x (termAt ws j) o plain-second)
+
+  pub reckoned-trees : {us vs : List ℕ} → Accumulated ws us false (termAt ws i) → Accumulated us vs true (termAt us j) → Reckoned ws vs (termAt ws i) (termAt ws j) true
+  reckoned-trees a b = record {
+    area = λ p l. b .area p l ∙ rw (a .area p l, c .cleared .word p l, term-kept a (c .right .formed));
+    above = same-within areaWords hintBase (omega arith) (omega (arith, c .left .formed .shaped .words)) (above-both a b);
+    long = b .long ∙ a .long;
+    agree = λ r. plain-agree;
+    differ = λ r. clash r refl;
+  }
+
+module _ {ws vs xs : List ℕ} {i j n : ℕ} {r o : Bool} (c : Comparable ws i j n) (a : Reckoned ws vs (termAt ws i) (termAt ws j) o) (e : Emptied vs xs n r) where
+  answered : (r && o) ≡ sameForm (termAt ws i) (termAt ws j)
+  answered = rw (e .is) (zeros-same-form (termAt ws i) (termAt ws j) vs (a .area) n (c .few) (c .left .within) (c .right .within) o (a .agree) (a .differ))
+
+  enough : hintBase ≤ length ws
+  enough = omega (arith, c .left .formed .shaped .words)
+
+  restored : Same 0 hintBase ws xs
+  restored = record { word = λ p z l. go p l (decLt p n) (decLt p constantWord) (ℕ-discrete p constantWord) }
     where
-      go : (p : ℕ) → p < length ws → Dec (p < n) → Dec (p < constantWord) → Dec (p ≡ constantWord) → getD xs p 0 ≡ getD ws p 0
+      go : (p : ℕ) → p < hintBase → Dec (p < n) → Dec (p < constantWord) → Dec (p ≡ constantWord) → getD xs p 0 ≡ getD ws p 0
       go p l (yes m) d f = e .zeros p m ∙ sym (c .cleared .word p (omega (arith, c .few)))
-      go p l (no m) (yes d) f = e .others p (omega arith) (omega (arith, a .long)) (omega arith) ∙ zero-beyond (termAt ws i) (termAt ws j) vs (a .area) n (c .few) (c .left .within) (c .right .within) p (omega arith) d ∙ sym (c .cleared .word p (omega arith))
+      go p l (no m) (yes d) f = e .others p (omega arith) (omega (arith, enough, a .long)) (omega arith) ∙ zero-beyond (termAt ws i) (termAt ws j) vs (a .area) n (c .few) (c .left .within) (c .right .within) p (omega arith) d ∙ sym (c .cleared .word p (omega arith))
       go p l (no m) (no d) (yes f) = rw f (e .constant ∙ sym (c .cleared .word constantWord (omega arith)))
-      go p l (no m) (no d) (no f) = e .others p (omega arith) (omega (arith, a .long)) f ∙ a .above .word p (omega arith) l
+      go p l (no m) (no d) (no f) = e .others p (omega arith) (omega (arith, enough, a .long)) f ∙ a .above .word p (omega arith) l
 
-  pub compared : {q : Bool} → r ≡ q → (comparisonOf q ≡ comparisonOf (sameForm (termAt ws i) (termAt ws j))) × (xs ≡ ws)
+  pub compared : {q : Bool} → (r && o) ≡ q → (comparisonOf q ≡ comparisonOf (sameForm (termAt ws i) (termAt ws j))) × Same 0 hintBase ws xs
   compared d = (ap comparisonOf (sym d ∙ answered), restored)

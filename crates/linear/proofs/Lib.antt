@@ -1,3 +1,4 @@
 pub mod Forms
 pub mod Laws
 pub mod Weights
+pub mod Settling

@@ -1,7 +1,7 @@
 -- Laws of weights: what the functions over the table give to the area. Assumes nothing.
 use mathlib.Core.Path.{_≡_, refl, sym, ap, subst, _∙_}
-use mathlib.Core.Logic.{_≢_}
-use mathlib.Core.Bool.{Bool, true, false}
+use mathlib.Core.Logic.{_≢_, ⊎-elim, _⊎_}
+use mathlib.Core.Bool.{Bool, true, false, _&&_, _||_}
 use mathlib.Core.List.{List}
 use Prim.Native.Nat.{ℕ, zero, suc, _+_, _-_, _*_, _/_, _%_, _^_, _≤_, _<_, max}
 use native.Mathlib.Nat.{mul-le-mul}
@@ -9,24 +9,32 @@ use native.Mathlib.Omega.{arith}
 use native.Mathlib.Decide.{decLt, ℕ-discrete}
 use lib.ListN.{length, getD, set, length-set}
 use lib.Seq.{getD-set-same, getD-set-other}
-use lib.Dec.{eqb}
+use lib.Dec.{eqb, ltb}
+use borrow.Author.Tests.{lt-ltb, ltb-true}
+use denote.Enum.Declared.{tagOf as variant, declared}
 use Rattle.model.specs.Word.{addW, subW}
-use Rattle.model.specs.Term.{Term, constant, variable, sum, difference, eval, closed}
-use Rattle.model.specs.Linear.{constantOf, variableBound}
+use Rattle.model.specs.Term.{Term, constant, variable, sum, difference, mask, shift, closed, rootOf}
+use Rattle.model.specs.Linear.{variableBound}
 use Rattle.model.proofs.Words.{_≈_, mul-cong, add-cong, add-plain, sub-plain, add-below}
 use Rattle.model.proofs.Terms.{and-left, and-right}
-use Rattle.workspace.specs.Layout.{constantWord, areaWords}
-use Rattle.terms.specs.Table.{place, partsAt, valueAt, marksAt, closedAt, nodeOfTag, viewOf, termAt, valueOf, InOrder, Formed}
+use Rattle.workspace.specs.Layout.{tableBase, constantWord, areaWords, hintBase}
+use Rattle.terms.specs.Table.{place, partsAt, valueAt, marksAt, valuedAt, nodeOfTag, viewOf, build, termAt, plain, InOrder, Shaped, Formed}
 use Rattle.terms.specs.declared.Node.{Node}
-use Rattle.terms.specs.declared.Node.the-variants.{Constant, Variable, Sum, Difference}
-use Rattle.terms.proofs.Table.{beside, formed-less, node-order, node-built}
-use Rattle.terms.proofs.Walks.{closed-at, open-zero}
+use Rattle.terms.specs.declared.Node.the-variants.{Constant, Variable, Sum, Difference, Mask, Shift}
+use Rattle.terms.proofs.Node.{enum as node-enum}
+use Rattle.terms.proofs.Table.{formed-less, node-order, node-built, marks-here, built-here, term-viewed, shaped-viewed}
+use Rattle.terms.proofs.Walks.{valued-at, tag-at, value-is-kept, no-value-zero}
 use Rattle.linear.specs.Area.{formAt, Comparable}
-use Rattle.linear.specs.Weights.{givenTo, total, Weighed, Weighable, Passed, Reckoned}
-use Rattle.linear.proofs.Forms.{form-word, form-coefficient, form-constant, form-sum, form-difference, coefficient-beyond, variable-here, variable-else, sub-only}
+use Rattle.linear.specs.Weights.{opaque, Entry, inWord, ofTerm, Valid, numberAt, areaAt, givenTo, total, Allowed, Loaded, Weighed, Weighable, Passed, Spread}
+use Rattle.linear.proofs.Forms.{clash, form-word, number-word, number-sum, number-difference, variable-here, Single, single-variable, single-valued, valued-here, opaque-form, sub-only}
 
-open-closed : {b : Bool} → b ≡ false → b ≡ true → ⊥
-open-closed h e = let z : _≡_ {A = ℕ} 0 1 = cc in omega arith
+first-false : (a b : Bool) → (a || b) ≡ false → a ≡ false
+first-false true b h = h
+first-false false b h = refl
+
+second-false : (a b : Bool) → (a || b) ≡ false → b ≡ false
+second-false true b h = clash h refl
+second-false false b h = h
 
 -- ---- products and sums modulo 2^32
 more-weight : (a x w f : ℕ) → a + (addW x w - 0) * f ≈ a + (x - 0) * f + w * f
@@ -60,359 +68,484 @@ parts-difference a w x y v l m h =
 pub product-fits : (a b : ℕ) → a < 2 ^ 32 → b < 2 ^ 32 → a * b < 2 ^ 64
 product-fits a b h k = let m : a * b ≤ 4294967295 * 4294967295 = mul-le-mul {n₁ = a} {m₁ = b} {n₂ = 4294967295} {m₂ = 4294967295} (omega arith) (omega arith) in omega arith
 
--- ---- the form of a closed term: its value is the constant, and all else is zero
-constant-eval : (t : Term) → constantOf t ≡ eval (λ v. 0) t
-unfolding constantOf eval
-constant-eval (constant c) = refl
-constant-eval (variable v) = refl
-constant-eval (sum s t) = rw (constant-eval s, constant-eval t)
-constant-eval (difference s t) = rw (constant-eval s, constant-eval t)
-
-closed-bound : (t : Term) → closed t ≡ true → variableBound t ≡ 0
-unfolding closed variableBound
-closed-bound (constant c) h = refl
-closed-bound (variable v) h = absurd (open-closed refl h)
-closed-bound (sum s t) h = rw (closed-bound s (and-left (closed s) (closed t) h), closed-bound t (and-right (closed s) (closed t) h))
-closed-bound (difference s t) h = rw (closed-bound s (and-left (closed s) (closed t) h), closed-bound t (and-right (closed s) (closed t) h))
-
-module _ (t : Term) (h : closed t ≡ true) where
-  closed-here : formAt constantWord t ≡ valueOf t
-  unfolding valueOf
-  closed-here = form-constant t ∙ constant-eval t ∙ rw h (omega arith)
-
-  closed-else : (p : ℕ) → p < areaWords → p ≢ constantWord → formAt p t ≡ 0
-  closed-else p l n = form-coefficient p t (omega arith) ∙ coefficient-beyond p t (omega (arith, closed-bound t h))
-
 -- ---- what the weights add
-total-same : (ws us vs : List ℕ) (p n : ℕ) → ((k : ℕ) → k < n → valueAt vs k ≡ valueAt us k) → total ws vs p n ≡ total ws us p n
+pub total-same : (ws us vs : List ℕ) (e : Entry) (n : ℕ) → ((k : ℕ) → k < n → valueAt vs k ≡ valueAt us k) → total ws vs e n ≡ total ws us e n
 unfolding total
-total-same ws us vs p zero h = refl
-total-same ws us vs p (suc n) h = rw (total-same ws us vs p n (λ k l. h k (omega arith)), h n (omega arith))
+total-same ws us vs e zero h = refl
+total-same ws us vs e (suc n) h = rw (total-same ws us vs e n (λ k l. h k (omega arith)), h n (omega arith))
 
-total-none : (ws : List ℕ) (p n : ℕ) → total ws ws p n ≡ 0
+-- nothing, where each node has no weight or no such number
+pub total-zero : (ws us : List ℕ) (e : Entry) (n : ℕ) → ((k : ℕ) → k < n → valueAt us k ≢ valueAt ws k → numberAt e (termAt ws k) ≡ 0) → total ws us e n ≡ 0
 unfolding total
-total-none ws p zero = refl
-total-none ws p (suc n) = let z : valueAt ws n - valueAt ws n ≡ 0 = omega arith in rw (total-none ws p n, z) (omega arith)
+total-zero ws us e zero h = refl
+total-zero ws us e (suc n) h = rw (total-zero ws us e n (λ k l d. h k (omega arith) d)) (go (ℕ-discrete (valueAt us n) (valueAt ws n)))
+  where
+    go : Dec (valueAt us n ≡ valueAt ws n) → 0 + (valueAt us n - valueAt ws n) * numberAt e (termAt ws n) ≡ 0
+    go (yes q) = let z : valueAt us n - valueAt ws n ≡ 0 = omega arith in rw z (omega arith)
+    go (no q) = rw (h n (omega arith) q) (omega arith)
 
-module _ (ws us vs : List ℕ) (p k w : ℕ) (z : valueAt ws k ≡ 0) (e : valueAt vs k ≡ addW (valueAt us k) w) (h : (m : ℕ) → m ≢ k → valueAt vs m ≡ valueAt us m) where
-  total-more : (n : ℕ) → k < n → total ws vs p n ≈ total ws us p n + w * formAt p (termAt ws k)
+module _ (ws us vs : List ℕ) (e : Entry) (k w : ℕ) (z : valueAt ws k ≡ 0) (q : valueAt vs k ≡ addW (valueAt us k) w) (h : (m : ℕ) → m ≢ k → valueAt vs m ≡ valueAt us m) where
+  pub total-more : (n : ℕ) → k < n → total ws vs e n ≈ total ws us e n + w * numberAt e (termAt ws k)
   unfolding total
   total-more zero l = absurd (omega arith)
   total-more (suc n) l = go (total-more n) (ℕ-discrete n k)
     where
-      go : (k < n → total ws vs p n ≈ total ws us p n + w * formAt p (termAt ws k)) → Dec (n ≡ k) → total ws vs p (suc n) ≈ total ws us p (suc n) + w * formAt p (termAt ws k)
-      go before (yes d) = rw (d, total-same ws us vs p k (λ m q. h m (omega arith)), e, z) (more-weight (total ws us p k) (valueAt us k) w (formAt p (termAt ws k)))
-      go before (no d) = rw (h n d) (more-both (total ws vs p n) (total ws us p n) ((valueAt us n - valueAt ws n) * formAt p (termAt ws n)) (w * formAt p (termAt ws k)) (before (omega arith)))
+      go : (k < n → total ws vs e n ≈ total ws us e n + w * numberAt e (termAt ws k)) → Dec (n ≡ k) → total ws vs e (suc n) ≈ total ws us e (suc n) + w * numberAt e (termAt ws k)
+      go before (yes d) = rw (d, total-same ws us vs e k (λ m r. h m (omega arith)), q, z) (more-weight (total ws us e k) (valueAt us k) w (numberAt e (termAt ws k)))
+      go before (no d) = rw (h n d) (more-both (total ws vs e n) (total ws us e n) ((valueAt us n - valueAt ws n) * numberAt e (termAt ws n)) (w * numberAt e (termAt ws k)) (before (omega arith)))
 
 -- ---- words with weights
-module _ {ws us : List ℕ} {n : ℕ} {want : ℕ → ℕ} (g : Weighed ws us n want) where
-  parts-kept : (k : ℕ) → partsAt us k ≡ partsAt ws k
-  parts-kept k = g .kept (place k) (omega arith) (λ j l o. omega arith)
+-- a node without a value reads as it does without weights
+by-tag : (t p v w : ℕ) → t ≢ 0 → nodeOfTag t p v ≡ nodeOfTag t p w
+by-tag zero p v w h = absurd (h refl)
+by-tag (suc zero) p v w h = refl
+by-tag (suc (suc zero)) p v w h = refl
+by-tag (suc (suc (suc zero))) p v w h = refl
+by-tag (suc (suc (suc (suc zero)))) p v w h = refl
+by-tag (suc (suc (suc (suc (suc t))))) p v w h = refl
 
-  marks-kept : (k : ℕ) → marksAt us k ≡ marksAt ws k
-  marks-kept k = g .kept (place k + 2) (omega arith) (λ j l o. omega arith)
+constant-valued : {ws : List ℕ} {k c : ℕ} → Formed ws (suc k) → viewOf ws k ≡ Constant c → valuedAt ws k ≡ true
+unfolding closed plain
+constant-valued {ws} {k} t e = valued-at (marks-here (t .shaped)) ∙ rw (node-built t refl e)
 
-  closed-kept : (k : ℕ) → closedAt us k ≡ closedAt ws k
-  closed-kept k = ap (λ m. eqb (m / 4 % 2) 1) (marks-kept k)
+tag-open : {ws : List ℕ} {k : ℕ} → Formed ws (suc k) → valuedAt ws k ≡ false → marksAt ws k % 8 ≢ 0
+unfolding viewOf
+tag-open {ws} {k} t o e = clash o (constant-valued {c = valueAt ws k} t (rw e))
 
-  value-kept : (k : ℕ) → closedAt ws k ≡ true → valueAt us k ≡ valueAt ws k
-  value-kept k h = g .kept (place k + 1) (omega arith) (λ j l o e. let d : j ≡ k = omega arith in open-closed (rw d at o) h)
+module _ {ws us : List ℕ} {n m : ℕ} (g : Loaded ws us n m) where
+  module _ (t : Formed ws n) (k : ℕ) (h : k < n) where
+    inside : place k + 3 ≤ hintBase
+    inside = omega (arith, t .shaped .fits)
 
-  weighed-as : (other : ℕ → ℕ) → ((p : ℕ) → p < areaWords → want p ≈ other p) → Weighed ws us n other
-  weighed-as other e = record { long = g .long; small = g .small; kept = g .kept; within = g .within; sums = λ p l. g .sums p l ∙ e p l }
+    pub parts-kept : partsAt us k ≡ partsAt ws k
+    parts-kept = g .kept (place k) (omega arith) (omega (arith, inside)) (λ j l o. omega arith)
 
-  -- y added to word x of the area
-  module _ {vs : List ℕ} (x y : ℕ) (f : ℕ → ℕ) (h : x < areaWords) (room : areaWords ≤ length us) (e : vs ≡ set us x (addW (getD us x 0) y)) (here : y ≈ f x) (else : (p : ℕ) → p < areaWords → p ≢ x → f p ≈ 0) where
+    pub marks-kept : marksAt us k ≡ marksAt ws k
+    marks-kept = g .kept (place k + 2) (omega arith) (omega (arith, inside)) (λ j l o. omega arith)
+
+    pub valued-kept : valuedAt us k ≡ valuedAt ws k
+    valued-kept = ap (λ x. eqb (x / 8 % 4) 3) marks-kept
+
+    pub value-kept : valuedAt ws k ≡ true → valueAt us k ≡ valueAt ws k
+    value-kept c = g .kept (place k + 1) (omega arith) (omega (arith, inside)) (λ j l o e. let d : j ≡ k = omega arith in clash (rw d at o) c)
+
+  module _ (t : Formed ws n) where
+    pub view-kept : (k : ℕ) → k < n → viewOf us k ≡ viewOf ws k
+    unfolding viewOf
+    view-kept k h = rw (marks-kept t k h, parts-kept t k h) (go (valuedAt ws k) refl)
+      where
+        go : (b : Bool) → valuedAt ws k ≡ b → nodeOfTag (marksAt ws k % 8) (partsAt ws k) (valueAt us k) ≡ nodeOfTag (marksAt ws k % 8) (partsAt ws k) (valueAt ws k)
+        go true o = rw (value-kept t k h o)
+        go false o = by-tag (marksAt ws k % 8) (partsAt ws k) (valueAt us k) (valueAt ws k) (tag-open (formed-less (suc k) h t) o)
+
+    pub term-kept : (k : ℕ) → k < n → termAt us k ≡ termAt ws k
+    term-kept = term-viewed ws us n view-kept
+
+    pub shaped-kept : Shaped us n
+    shaped-kept = shaped-viewed ws us n view-kept (λ i h. marks-kept t i h) (g .long) (t .shaped)
+
+  -- another weight at a node that may have one
+  pub loaded-set : {vs : List ℕ} (k v : ℕ) → k < n → valuedAt ws k ≡ false → (m ≤ k → opaque (termAt ws k) ≡ true) → vs ≡ set us (place k + 1) v → Loaded ws vs n m
+  loaded-set {vs} k v h o i e = record {
+    long = ap length e ∙ simp length-set (g .long);
+    kept = λ p l r d. other p (d k h o) ∙ g .kept p l r d;
+    left = λ j l q d. go j l q d (ℕ-discrete j k);
+  }
+    where
+      other : (p : ℕ) → p ≢ place k + 1 → getD vs p 0 ≡ getD us p 0
+      other p d = rw e (getD-set-other us (place k + 1) p _ 0 d)
+
+      go : (j : ℕ) → m ≤ j → j < n → valueAt vs j ≢ valueAt ws j → Dec (j ≡ k) → opaque (termAt ws j) ≡ true
+      go j l q d (yes r) = rw r (i (omega arith))
+      go j l q d (no r) = g .left j l q (λ x. d (other (place j + 1) (omega arith) ∙ x))
+
+-- words that differ from us at one node's weight
+module _ (us vs : List ℕ) (k v : ℕ) (e : vs ≡ set us (place k + 1) v) where
+  pub weight-other : (p : ℕ) → p ≢ place k + 1 → getD vs p 0 ≡ getD us p 0
+  weight-other p d = rw e (getD-set-other us (place k + 1) p _ 0 d)
+
+  pub weight-own : place (suc k) ≤ length us → valueAt vs k ≡ v
+  weight-own h = rw e (getD-set-same us (place k + 1) _ 0 (omega arith))
+
+module _ {ws us : List ℕ} {n m : ℕ} {only : Bool} {want : Entry → ℕ} (g : Weighed ws us n m only want) where
+  weighed-as : (other : Entry → ℕ) → ((e : Entry) → Valid e → want e ≈ other e) → Weighed ws us n m only other
+  weighed-as other h = record { loaded = g .loaded; small = g .small; within = g .within; sums = λ e l. g .sums e l ∙ h e l }
+
+  -- y added to word x of the area, which is all that f has
+  module _ {vs : List ℕ} (x y : ℕ) (f : Entry → ℕ) (h : x < areaWords) (room : areaWords ≤ length us) (e : vs ≡ set us x (addW (getD us x 0) y)) (here : y ≈ f (inWord x))
+      (words : (p : ℕ) → p < areaWords → p ≢ x → f (inWord p) ≈ 0) (terms : (t : Term) → opaque t ≡ true → f (ofTerm t) ≈ 0) where
     area-other : (p : ℕ) → p ≢ x → getD vs p 0 ≡ getD us p 0
     area-other p d = rw e (getD-set-other us x p _ 0 d)
 
     area-own : getD vs x 0 ≡ addW (getD us x 0) y
     area-own = rw e (getD-set-same us x _ 0 (omega arith))
 
-    area-total : (p : ℕ) → total ws vs p n ≡ total ws us p n
-    area-total p = total-same ws us vs p n (λ k l. area-other (place k + 1) (omega arith))
+    area-total : (q : Entry) → total ws vs q n ≡ total ws us q n
+    area-total q = total-same ws us vs q n (λ k l. area-other (place k + 1) (omega arith))
 
-    area-more : Weighed ws vs n (λ p. want p + f p)
+    area-more : Weighed ws vs n m only (λ q. want q + f q)
     area-more = record {
-      long = ap length e ∙ simp length-set (g .long);
+      loaded = record {
+        long = ap length e ∙ simp length-set (g .loaded .long);
+        kept = λ p l r k. area-other p (omega arith) ∙ g .loaded .kept p l r k;
+        left = λ k l r d. g .loaded .left k l r (λ q. d (area-other (place k + 1) (omega arith) ∙ q));
+      };
       small = λ p l. word p l (ℕ-discrete p x);
-      kept = λ p l k. area-other p (omega arith) ∙ g .kept p l k;
       within = λ k l d. g .within k l (λ q. d (area-other (place k + 1) (omega arith) ∙ q));
-      sums = λ p l. rw (area-total p) (adds p l (ℕ-discrete p x));
+      sums = λ q l. rw (area-total q) (adds q l);
     }
       where
         word : (p : ℕ) → p < areaWords → Dec (p ≡ x) → getD vs p 0 < 2 ^ 32
         word p l (yes d) = rw (d, area-own) (add-below (getD us x 0) y)
         word p l (no d) = rw (area-other p d) (g .small p l)
 
-        adds : (p : ℕ) → p < areaWords → Dec (p ≡ x) → getD vs p 0 + total ws us p n ≈ want p + f p
-        adds p l (yes d) = rw (d, area-own) (area-here (getD us x 0) y (total ws us x n) (want x) (f x) (g .sums x h) here)
-        adds p l (no d) = rw (area-other p d) (area-else (getD us p 0) (total ws us p n) (want p) (f p) (g .sums p l) (else p l d))
+        in-word : (p : ℕ) → p < areaWords → Dec (p ≡ x) → getD vs p 0 + total ws us (inWord p) n ≈ want (inWord p) + f (inWord p)
+        in-word p l (yes d) = rw (d, area-own) (area-here (getD us x 0) y (total ws us (inWord x) n) (want (inWord x)) (f (inWord x)) (g .sums (inWord x) h) here)
+        in-word p l (no d) = rw (area-other p d) (area-else (getD us p 0) (total ws us (inWord p) n) (want (inWord p)) (f (inWord p)) (g .sums (inWord p) l) (words p l d))
 
-  -- w added to the weight of node k
-  module _ {vs : List ℕ} (k w : ℕ) (t : Formed ws n) (h : k < n) (o : closedAt ws k ≡ false) (b : variableBound (termAt ws k) ≤ constantWord) (e : vs ≡ set us (place k + 1) (addW (valueAt us k) w)) where
-    weight-other : (p : ℕ) → p ≢ place k + 1 → getD vs p 0 ≡ getD us p 0
-    weight-other p d = rw e (getD-set-other us (place k + 1) p _ 0 d)
+        adds : (q : Entry) → Valid q → areaAt vs q + total ws us q n ≈ want q + f q
+        adds (inWord p) l = in-word p l (ℕ-discrete p x)
+        adds (ofTerm t) o = area-else 0 (total ws us (ofTerm t) n) (want (ofTerm t)) (f (ofTerm t)) (g .sums (ofTerm t) o) (terms t o)
 
-    weight-own : valueAt vs k ≡ addW (valueAt us k) w
-    weight-own = rw e (getD-set-same us (place k + 1) _ 0 (omega (arith, t .room, g .long)))
+  -- w added to the weight of node k, which comes before node m
+  module _ {vs : List ℕ} (k w : ℕ) (t : Formed ws n) (h : k < n) (i : k < m) (o : valuedAt ws k ≡ false) (b : Allowed only (termAt ws k)) (e : vs ≡ set us (place k + 1) (addW (valueAt us k) w)) where
+    weight-area : (q : Entry) → Valid q → areaAt vs q ≡ areaAt us q
+    weight-area (inWord p) l = weight-other us vs k _ e p (omega arith)
+    weight-area (ofTerm x) l = refl
 
-    weight-more : Weighed ws vs n (λ p. want p + w * formAt p (termAt ws k))
+    weight-more : Weighed ws vs n m only (λ q. want q + w * numberAt q (termAt ws k))
     weight-more = record {
-      long = ap length e ∙ simp length-set (g .long);
-      small = λ p l. rw (weight-other p (omega arith)) (g .small p l);
-      kept = λ p l d. weight-other p (d k h o) ∙ g .kept p l d;
-      within = λ m l d. bound m l d (ℕ-discrete m k);
-      sums = λ p l. rw (weight-other p (omega arith)) (adds p l);
+      loaded = loaded-set (g .loaded) k (addW (valueAt us k) w) h o (λ l. absurd (omega arith)) e;
+      small = λ p l. rw (weight-other us vs k _ e p (omega arith)) (g .small p l);
+      within = λ j l d. bound j l d (ℕ-discrete j k);
+      sums = λ q l. rw (weight-area q l) (adds q l);
     }
       where
-        bound : (m : ℕ) → m < n → valueAt vs m ≢ valueAt ws m → Dec (m ≡ k) → variableBound (termAt ws m) ≤ constantWord
-        bound m l d (yes q) = rw q b
-        bound m l d (no q) = g .within m l (λ r. d (weight-other (place m + 1) (omega arith) ∙ r))
+        bound : (j : ℕ) → j < n → valueAt vs j ≢ valueAt ws j → Dec (j ≡ k) → Allowed only (termAt ws j)
+        bound j l d (yes q) = rw q b
+        bound j l d (no q) = g .within j l (λ r. d (weight-other us vs k _ e (place j + 1) (omega arith) ∙ r))
 
-        adds : (p : ℕ) → p < areaWords → getD us p 0 + total ws vs p n ≈ want p + w * formAt p (termAt ws k)
-        adds p l = omega (arith, g .sums p l, total-more ws us vs p k w (open-zero (t .known k h) o) weight-own (λ m d. weight-other (place m + 1) (omega arith)) n h)
+        adds : (q : Entry) → Valid q → areaAt us q + total ws vs q n ≈ want q + w * numberAt q (termAt ws k)
+        adds q l = omega (arith, g .sums q l, total-more ws us vs q k w (no-value-zero (formed-less (suc k) h t) o) (weight-own us vs k _ e (omega (arith, t .shaped .words, t .shaped .fits, g .loaded .long))) (λ j d. weight-other us vs k _ e (place j + 1) (omega arith)) n h)
 
   -- w times the form of node k's term given
-  give-more : {vs : List ℕ} (k w : ℕ) → Formed ws n → k < n → variableBound (termAt ws k) ≤ constantWord → vs ≡ givenTo (closedAt us k) us k w → Weighed ws vs n (λ p. want p + w * formAt p (termAt ws k))
-  give-more {vs} k w t h b e = go (closedAt ws k) refl (rw (closed-kept k) at e)
+  give-more : {vs : List ℕ} (k w : ℕ) → Formed ws n → k < n → k < m → Allowed only (termAt ws k) → vs ≡ givenTo (valuedAt us k) us k w → Weighed ws vs n m only (λ q. want q + w * numberAt q (termAt ws k))
+  give-more {vs} k w t h i b e = go (valuedAt ws k) refl (rw (valued-kept (g .loaded) t k h) at e)
     where
-      go : (c : Bool) → closedAt ws k ≡ c → vs ≡ givenTo c us k w → Weighed ws vs n (λ p. want p + w * formAt p (termAt ws k))
-      go false o d = weight-more k w t h o b d
+      here : Formed ws (suc k)
+      here = formed-less (suc k) h t
+
+      go : (c : Bool) → valuedAt ws k ≡ c → vs ≡ givenTo c us k w → Weighed ws vs n m only (λ q. want q + w * numberAt q (termAt ws k))
+      go false o d = weight-more k w t h i o b d
       go true o d =
-          let c : closed (termAt ws k) ≡ true = sym (closed-at (t .known k h)) ∙ o in
-          let v : formAt constantWord (termAt ws k) ≡ valueAt us k = closed-here (termAt ws k) c ∙ sym (t .known k h .value) ∙ sym (value-kept k o) in
-          area-more constantWord (w * valueAt us k % 2 ^ 32) (λ p. w * formAt p (termAt ws k)) (omega arith) (omega (arith, t .room, g .long)) d (rw v (omega arith)) (λ p l m. rw (closed-else (termAt ws k) c p l m) (omega arith))
+          let v : (closed (termAt ws k) && plain (termAt ws k)) ≡ true = sym (valued-at (marks-here (here .shaped))) ∙ o in
+          let c : closed (termAt ws k) ≡ true = and-left (closed (termAt ws k)) (plain (termAt ws k)) v in
+          let p : plain (termAt ws k) ≡ true = and-right (closed (termAt ws k)) (plain (termAt ws k)) v in
+          let f : formAt constantWord (termAt ws k) ≡ valueAt us k = valued-here (termAt ws k) c p ∙ sym (value-is-kept here o) ∙ sym (value-kept (g .loaded) t k h o) in
+          let s : Single constantWord (termAt ws k) = single-valued (termAt ws k) c p in
+          area-more constantWord (w * valueAt us k % 2 ^ 32) (λ q. w * numberAt q (termAt ws k)) (omega arith) (omega (arith, t .shaped .words, t .shaped .fits, g .loaded .long)) d (rw f (omega arith))
+          (λ r l n. rw (s .words r l n) (omega arith)) (λ x l. rw (s .terms x l) (omega arith))
 
 -- ---- the ways out of `give`
-module _ (us : List ℕ) (k w : ℕ) {b : Bool} {value x : ℕ} {vs : List ℕ} (h : b ≡ closedAt us k) (v : value ≡ valueAt us k) where
-  pub given-closed : b ≡ true → x ≡ w * value % 2 ^ 32 → vs ≡ set us constantWord (addW (getD us constantWord 0) x) → vs ≡ givenTo (closedAt us k) us k w
+module _ (us : List ℕ) (k w : ℕ) {b : Bool} {value x : ℕ} {vs : List ℕ} (h : b ≡ valuedAt us k) (v : value ≡ valueAt us k) where
+  pub given-closed : b ≡ true → x ≡ w * value % 2 ^ 32 → vs ≡ set us constantWord (addW (getD us constantWord 0) x) → vs ≡ givenTo (valuedAt us k) us k w
   given-closed l p e = rw (← h, l, e, p, v)
 
-  pub given-open : b ≡ false → x ≡ addW value w → vs ≡ set us (place k + 1) x → vs ≡ givenTo (closedAt us k) us k w
+  pub given-open : b ≡ false → x ≡ addW value w → vs ≡ set us (place k + 1) x → vs ≡ givenTo (valuedAt us k) us k w
   given-open l p e = rw (← h, l, e, p, v)
 
--- ---- node k, the last with a weight
--- an open node reads as it does without weights
-by-tag : (t p v w : ℕ) → t ≢ 0 → nodeOfTag t p v ≡ nodeOfTag t p w
-by-tag zero p v w h = absurd (h refl)
-by-tag (suc zero) p v w h = refl
-by-tag (suc (suc zero)) p v w h = refl
-by-tag (suc (suc (suc t))) p v w h = refl
+-- ---- node k, the last with a weight that is still to be given
+module _ {ws us : List ℕ} {n k : ℕ} {only : Bool} {want : Entry → ℕ} (h : k < n) (t : Formed ws n) (g : Weighed ws us n (suc k) only want) where
+  here : Formed ws (suc k)
+  here = formed-less (suc k) h t
 
-constant-closed : {ws : List ℕ} {k c : ℕ} → Formed ws (suc k) → viewOf ws k ≡ Constant c → closedAt ws k ≡ true
-unfolding closed
-constant-closed {ws} {k} t e = closed-at (beside t) ∙ rw (node-built t refl e)
-
-tag-open : {ws : List ℕ} {k : ℕ} → Formed ws (suc k) → closedAt ws k ≡ false → marksAt ws k % 4 ≢ 0
-unfolding viewOf
-tag-open {ws} {k} t o e = open-closed o (constant-closed {c = valueAt ws k} t (rw e))
-
-module _ {ws us : List ℕ} {k : ℕ} {want : ℕ → ℕ} (t : Formed ws (suc k)) (g : Weighed ws us (suc k) want) where
-  -- where it has no weight
-  pass-none : valueAt us k ≡ valueAt ws k → Weighed ws us k want
-  unfolding total
-  pass-none e = record {
-    long = g .long;
+  -- where it has none, or keeps it
+  pass-left : (valueAt us k ≢ valueAt ws k → opaque (termAt ws k) ≡ true) → Weighed ws us n k only want
+  pass-left o = record {
+    loaded = record { long = g .loaded .long; kept = g .loaded .kept; left = λ j l q d. go j l q d (ℕ-discrete j k) };
     small = g .small;
-    kept = λ p l d. go p l d (ℕ-discrete p (place k + 1));
-    within = λ m l d. g .within m (omega arith) d;
-    sums = λ p l. adds p (g .sums p l);
+    within = g .within;
+    sums = g .sums;
   }
     where
-      go : (p : ℕ) → areaWords ≤ p → ((m : ℕ) → m < k → closedAt ws m ≡ false → p ≢ place m + 1) → Dec (p ≡ place k + 1) → getD us p 0 ≡ getD ws p 0
-      go p l d (yes q) = rw q e
-      go p l d (no q) = g .kept p l (λ m h o r. d m (omega arith) o r)
+      go : (j : ℕ) → k ≤ j → j < n → valueAt us j ≢ valueAt ws j → Dec (j ≡ k) → opaque (termAt ws j) ≡ true
+      go j l q d (yes r) = rw r (o (λ e. d (rw r e)))
+      go j l q d (no r) = g .loaded .left j (omega arith) q d
 
-      adds : (p : ℕ) → getD us p 0 + (total ws us p k + (valueAt us k - valueAt ws k) * formAt p (termAt ws k)) ≈ want p → getD us p 0 + total ws us p k ≈ want p
-      adds p h = let z : valueAt us k - valueAt ws k ≡ 0 = omega arith in let j = rw z at h in omega arith
-
-  module _ (o : closedAt us k ≡ false) where
-    open-here : closedAt ws k ≡ false
-    open-here = sym (closed-kept g k) ∙ o
-
-    open-view : viewOf us k ≡ viewOf ws k
-    unfolding viewOf
-    open-view = rw (marks-kept g k, parts-kept g k) (by-tag (marksAt ws k % 4) (partsAt ws k) (valueAt us k) (valueAt ws k) (tag-open t open-here))
+  module _ (o : valuedAt us k ≡ false) where
+    open-here : valuedAt ws k ≡ false
+    open-here = sym (valued-kept (g .loaded) t k h) ∙ o
 
     value-zero : valueAt ws k ≡ 0
-    value-zero = open-zero (beside t) open-here
+    value-zero = no-value-zero here open-here
 
-    bound-here : valueAt us k ≢ 0 → variableBound (termAt ws k) ≤ constantWord
-    bound-here d = g .within k (omega arith) (λ e. d (e ∙ value-zero))
+    bound-here : valueAt us k ≢ 0 → Allowed only (termAt ws k)
+    bound-here d = g .within k h (λ e. d (e ∙ value-zero))
 
-    -- what the area and the nodes before it hold
-    rest : ℕ → ℕ
-    rest p = getD us p 0 + total ws us p k
+    module _ (word : valueAt us k < 2 ^ 32) {vs : List ℕ} (e : vs ≡ set us (place k + 1) 0) where
+      -- what the area and the other nodes hold
+      rest : Entry → ℕ
+      rest q = areaAt us q + total ws vs q n
 
-    rest-weight : (p : ℕ) → p < areaWords → rest p + valueAt us k * formAt p (termAt ws k) ≈ want p
-    unfolding total rest
-    rest-weight p l = let z : valueAt us k - 0 ≡ valueAt us k = omega arith in let h = rw (value-zero, z) at (g .sums p l) in omega arith
+      rest-weight : (q : Entry) → Valid q → rest q + valueAt us k * numberAt q (termAt ws k) ≈ want q
+      unfolding rest addW
+      rest-weight q l =
+          let z : valueAt vs k ≡ 0 = weight-own us vs k 0 e (omega (arith, t .shaped .words, t .shaped .fits, g .loaded .long)) in
+          omega (arith, g .sums q l, total-more ws vs us q k (valueAt us k) value-zero (rw z (omega arith)) (λ j d. sym (weight-other us vs k 0 e (place j + 1) (omega arith))) n h)
 
-    -- where its weight is made zero
-    weight-taken : {vs : List ℕ} → vs ≡ set us (place k + 1) 0 → Weighed ws vs k rest
-    unfolding rest
-    weight-taken {vs} e = record {
-      long = ap length e ∙ simp length-set (g .long);
-      small = λ p l. rw (other p (omega arith)) (g .small p l);
-      kept = λ p l d. go p l d (ℕ-discrete p (place k + 1));
-      within = λ m l d. g .within m (omega arith) (λ q. d (other (place m + 1) (omega arith) ∙ q));
-      sums = λ p l. rw (other p (omega arith), total-same ws us vs p k (λ m q. other (place m + 1) (omega arith)));
-    }
-      where
-        other : (p : ℕ) → p ≢ place k + 1 → getD vs p 0 ≡ getD us p 0
-        other p d = rw e (getD-set-other us (place k + 1) p 0 0 d)
+      -- where its weight is made zero
+      weight-taken : Weighed ws vs n k only rest
+      unfolding rest
+      weight-taken = record {
+        loaded = record {
+          long = ap length e ∙ simp length-set (g .loaded .long);
+          kept = λ p l r d. weight-other us vs k 0 e p (d k h open-here) ∙ g .loaded .kept p l r d;
+          left = λ j l q d. go j l q d (ℕ-discrete j k);
+        };
+        small = λ p l. rw (weight-other us vs k 0 e p (omega arith)) (g .small p l);
+        within = λ j l d. bound j l d (ℕ-discrete j k);
+        sums = λ q l. rw (area q l);
+      }
+        where
+          own : valueAt vs k ≡ valueAt ws k
+          own = weight-own us vs k 0 e (omega (arith, t .shaped .words, t .shaped .fits, g .loaded .long)) ∙ sym value-zero
 
-        go : (p : ℕ) → areaWords ≤ p → ((m : ℕ) → m < k → closedAt ws m ≡ false → p ≢ place m + 1) → Dec (p ≡ place k + 1) → getD vs p 0 ≡ getD ws p 0
-        go p l d (yes q) = rw (q, e) (getD-set-same us (place k + 1) 0 0 (omega (arith, t .room, g .long)) ∙ sym value-zero)
-        go p l d (no q) = other p q ∙ g .kept p l (λ m h n r. d m (omega arith) n r)
+          area : (q : Entry) → Valid q → areaAt vs q ≡ areaAt us q
+          area (inWord p) l = weight-other us vs k 0 e p (omega arith)
+          area (ofTerm x) l = refl
+
+          go : (j : ℕ) → k ≤ j → j < n → valueAt vs j ≢ valueAt ws j → Dec (j ≡ k) → opaque (termAt ws j) ≡ true
+          go j l q d (yes r) = absurd (d (rw r own))
+          go j l q d (no r) = g .loaded .left j (omega arith) q (λ x. d (weight-other us vs k 0 e (place j + 1) (omega arith) ∙ x))
+
+          bound : (j : ℕ) → j < n → valueAt vs j ≢ valueAt ws j → Dec (j ≡ k) → Allowed only (termAt ws j)
+          bound j l d (yes r) = absurd (d (rw r own))
+          bound j l d (no r) = g .within j l (λ x. d (weight-other us vs k 0 e (place j + 1) (omega arith) ∙ x))
 
 -- ---- the ways out of `pass`
+allowed-parts : {only : Bool} {s t : Term} → max (variableBound s) (variableBound t) ≤ constantWord → (only ≡ true → (plain s && plain t) ≡ true) → Allowed only s × Allowed only t
+allowed-parts {only} {s} {t} b p = (record { bound = omega arith; plain-term = λ o. and-left (plain s) (plain t) (p o) }, record { bound = omega arith; plain-term = λ o. and-right (plain s) (plain t) (p o) })
+
+abbrev shape : Node → ℕ
+shape n = variant (declared node-enum) n
+
 module _ (us : List ℕ) (k : ℕ) {w : ℕ} (e : w ≡ valueAt us k) where
   pub passed-none : w ≡ 0 → Passed us us (suc k) k
-  passed-none z = record { weighed = λ ws want t g. pass-none t g (go ws want t g (closedAt us k) refl) }
+  passed-none z = record { weighed = λ ws n only want l t g. pass-left l t g (λ d. absurd (d (go ws n only want l t g (valuedAt us k) refl))) }
     where
-      go : (ws : List ℕ) (want : ℕ → ℕ) (t : Formed ws (suc k)) (g : Weighed ws us (suc k) want) (b : Bool) → closedAt us k ≡ b → valueAt us k ≡ valueAt ws k
-      go ws want t g true o = value-kept g k (sym (closed-kept g k) ∙ o)
-      go ws want t g false o = sym e ∙ z ∙ sym (value-zero t g o)
+      go : (ws : List ℕ) (n : ℕ) (only : Bool) (want : Entry → ℕ) (l : k < n) (t : Formed ws n) (g : Weighed ws us n (suc k) only want) (b : Bool) → valuedAt us k ≡ b → valueAt us k ≡ valueAt ws k
+      go ws n only want l t g true o = value-kept (g .loaded) t k l (sym (valued-kept (g .loaded) t k l) ∙ o)
+      go ws n only want l t g false o = sym e ∙ z ∙ sym (value-zero l t g o)
 
-  module _ {b : Bool} (h : b ≡ closedAt us k) where
-    pub passed-closed : b ≡ true → Passed us us (suc k) k
-    passed-closed l = record { weighed = λ ws want t g. pass-none t g (value-kept g k (sym (closed-kept g k) ∙ sym h ∙ l)) }
+  module _ {b : Bool} {tag : ℕ} (h : b ≡ valuedAt us k) (q : tag ≡ marksAt us k % 8) where
+    opaque-here : {ws : List ℕ} {n : ℕ} → k < n → Formed ws n → Loaded ws us n (suc k) → opaque (termAt ws k) ≡ ltb 3 tag
+    opaque-here {ws} l t g = rw (q, marks-kept g t k l) (ap (ltb 3) (sym (tag-at (t .shaped .marked k l))))
 
-    module _ (z : w ≢ 0) (l : b ≡ false) {node : Node} {vs : List ℕ} (v : node ≡ viewOf us k) (s : vs ≡ set us (place k + 1) 0) where
-      open-at : closedAt us k ≡ false
-      open-at = sym h ∙ l
+    pub passed-kept : (b || ltb 3 tag) ≡ true → Passed us us (suc k) k
+    passed-kept o = record { weighed = λ ws n only want l t g. pass-left l t g (λ d. go ws n only want l t g d b refl) }
+      where
+        go : (ws : List ℕ) (n : ℕ) (only : Bool) (want : Entry → ℕ) (l : k < n) (t : Formed ws n) (g : Weighed ws us n (suc k) only want) → valueAt us k ≢ valueAt ws k → (c : Bool) → b ≡ c → opaque (termAt ws k) ≡ true
+        go ws n only want l t g d true x = absurd (d (value-kept (g .loaded) t k l (sym (valued-kept (g .loaded) t k l) ∙ sym h ∙ x)))
+        go ws n only want l t g d false x = opaque-here l t (g .loaded) ∙ (rw x at o)
 
-      module _ {ws : List ℕ} {want : ℕ → ℕ} (t : Formed ws (suc k)) (g : Weighed ws us (suc k) want) where
-        here : node ≡ viewOf ws k
-        here = v ∙ open-view t g open-at
+    module _ (z : w ≢ 0) (small : w < 2 ^ 32) (o : (b || ltb 3 tag) ≡ false) {node : Node} {vs : List ℕ} (v : node ≡ viewOf us k) (s : vs ≡ set us (place k + 1) 0) where
+      open-at : valuedAt us k ≡ false
+      open-at = sym h ∙ first-false b (ltb 3 tag) o
 
-        taken : Weighed ws vs k (rest t g open-at)
-        taken = weight-taken t g open-at s
+      word-at : valueAt us k < 2 ^ 32
+      word-at = rw (← e) small
 
-        bounded : variableBound (termAt ws k) ≤ constantWord
-        bounded = bound-here t g open-at (λ q. z (e ∙ q))
+      module _ {ws : List ℕ} {n : ℕ} {only : Bool} {want : Entry → ℕ} (l : k < n) (t : Formed ws n) (g : Weighed ws us n (suc k) only want) where
+        view : node ≡ viewOf ws k
+        view = v ∙ view-kept (g .loaded) t k l
 
-        given : (p : ℕ) → p < areaWords → rest t g open-at p + w * formAt p (termAt ws k) ≈ want p
-        given p m = subst (λ x. rest t g open-at p + x * formAt p (termAt ws k) ≈ want p) (sym e) (rest-weight t g open-at p m)
+        formed : Formed ws (suc k)
+        formed = formed-less (suc k) l t
 
-      pub passed-constant : {c : ℕ} → node ≡ Constant c → Passed us vs (suc k) k
-      passed-constant a = record { weighed = λ ws want t g. absurd (open-closed (open-here t g open-at) (constant-closed t (sym (here t g) ∙ a))) }
+        not-opaque : opaque (termAt ws k) ≡ false
+        not-opaque = opaque-here l t (g .loaded) ∙ second-false b (ltb 3 tag) o
+
+        abbrev left-over : Entry → ℕ
+        left-over = rest l t g open-at word-at s
+
+        taken : Weighed ws vs n k only left-over
+        taken = weight-taken l t g open-at word-at s
+
+        allowed : Allowed only (termAt ws k)
+        allowed = bound-here l t g open-at (λ r. z (e ∙ r))
+
+        given : (q : Entry) → Valid q → left-over q + w * numberAt q (termAt ws k) ≈ want q
+        given q m = subst (λ x. left-over q + x * numberAt q (termAt ws k) ≈ want q) (sym e) (rest-weight l t g open-at word-at s q m)
+
+      -- a constant holds a value; a masked or shifted term keeps its weight
+      no-such : (ws : List ℕ) (n : ℕ) (only : Bool) (want : Entry → ℕ) (l : k < n) (t : Formed ws n) (g : Weighed ws us n (suc k) only want) (m : Node) → node ≡ m → (shape m ≡ 0) ⊎ ((shape m ≡ 4) ⊎ (shape m ≡ 5)) → ⊥
+      no-such ws n only want l t g (Constant c) a i = clash (open-here l t g open-at) (constant-valued (formed l t g) (sym (view l t g) ∙ a))
+      no-such ws n only want l t g (Variable x) a i = ⊎-elim (λ r. omega arith) (⊎-elim (λ r. omega arith) (λ r. omega arith)) i
+      no-such ws n only want l t g (Sum x y) a i = ⊎-elim (λ r. omega arith) (⊎-elim (λ r. omega arith) (λ r. omega arith)) i
+      no-such ws n only want l t g (Difference x y) a i = ⊎-elim (λ r. omega arith) (⊎-elim (λ r. omega arith) (λ r. omega arith)) i
+      no-such ws n only want l t g (Mask x y) a i = clash (not-opaque l t g) (rw (node-built (formed l t g) (view l t g) a))
+      no-such ws n only want l t g (Shift x y) a i = clash (not-opaque l t g) (rw (node-built (formed l t g) (view l t g) a))
+
+      pub passed-other : (shape node ≡ 0) ⊎ ((shape node ≡ 4) ⊎ (shape node ≡ 5)) → Passed us vs (suc k) k
+      passed-other i = record { weighed = λ ws n only want l t g. absurd (no-such ws n only want l t g node refl i) }
 
       pub passed-variable : {x p : ℕ} {xs : List ℕ} → node ≡ Variable x → p ≡ x → xs ≡ set vs p (addW (getD vs p 0) w) → Passed us xs (suc k) k
       unfolding variableBound
       passed-variable {x} {p} {xs} a d f = record { weighed = go }
         where
-          go : (ws : List ℕ) (want : ℕ → ℕ) → Formed ws (suc k) → Weighed ws us (suc k) want → Weighed ws xs k want
-          go ws want t g =
-              let q : termAt ws k ≡ variable x = node-built t (here t g) a in
-              let m : x < constantWord = (let y = rw q at (bounded t g) in omega arith) in
+          go : (ws : List ℕ) (n : ℕ) (only : Bool) (want : Entry → ℕ) → k < n → Formed ws n → Weighed ws us n (suc k) only want → Weighed ws xs n k only want
+          go ws n only want l t g =
+              let q : termAt ws k ≡ variable x = node-built (formed l t g) (view l t g) a in
+              let m : x < constantWord = (let y = rw q at (allowed l t g .bound) in omega arith) in
               weighed-as
-              (area-more (taken t g) x w (λ r. w * formAt r (termAt ws k)) (omega arith) (omega (arith, t .room, taken t g .long)) (rw d at f)
+              (area-more (taken l t g) x w (λ r. w * numberAt r (termAt ws k)) (omega arith) (omega (arith, t .shaped .words, t .shaped .fits, taken l t g .loaded .long)) (rw d at f)
               (rw (q, variable-here x m) (omega arith))
-              (λ r i n. rw (q, variable-else r x n) (omega arith)))
+              (λ r i c. rw (q, single-variable x .words r i c) (omega arith))
+              (λ r i. rw (q, single-variable x .terms r i) (omega arith)))
               want
-              (given t g)
+              (given l t g)
 
       -- a pair of nodes i and j, to which w and y are given
-      module _ {i j : ℕ} (y : ℕ) {xs zs : List ℕ} (f : xs ≡ givenTo (closedAt vs i) vs i w) (n : zs ≡ givenTo (closedAt xs j) xs j y) where
-        both : {ws : List ℕ} {want : ℕ → ℕ} (t : Formed ws (suc k)) (g : Weighed ws us (suc k) want) → (i < k) × (j < k) → max (variableBound (termAt ws i)) (variableBound (termAt ws j)) ≤ constantWord
-            → ((p : ℕ) → rest t g open-at p + w * formAt p (termAt ws k) ≈ want p → rest t g open-at p + w * formAt p (termAt ws i) + y * formAt p (termAt ws j) ≈ want p)
-            → Weighed ws zs k want
-        both {ws} {want} t g o b c =
-            let before : Formed ws k = formed-less k (omega arith) t in
-            weighed-as (give-more (give-more (taken t g) i w before (o .0) (omega arith) f) j y before (o .1) (omega arith) n) want (λ p m. c p (given t g p m))
+      module _ {i j : ℕ} (y : ℕ) {xs zs : List ℕ} (f : xs ≡ givenTo (valuedAt vs i) vs i w) (c : zs ≡ givenTo (valuedAt xs j) xs j y) where
+        both : {ws : List ℕ} {n : ℕ} {only : Bool} {want : Entry → ℕ} (l : k < n) (t : Formed ws n) (g : Weighed ws us n (suc k) only want) → (i < k) × (j < k)
+            → Allowed only (termAt ws i) × Allowed only (termAt ws j)
+            → ((q : Entry) → left-over l t g q + w * numberAt q (termAt ws k) ≈ want q → left-over l t g q + w * numberAt q (termAt ws i) + y * numberAt q (termAt ws j) ≈ want q)
+            → Weighed ws zs n k only want
+        both {ws} {n} {only} {want} l t g o b m =
+            weighed-as (give-more (give-more (taken l t g) i w t (omega arith) (o .0) (b .0) f) j y t (omega arith) (o .1) (b .1) c) want (λ q r. m q (given l t g q r))
 
         pub passed-sum : node ≡ Sum i j → y ≡ w → Passed us zs (suc k) k
-        unfolding variableBound
+        unfolding variableBound plain
         passed-sum a d = record { weighed = go }
           where
-            go : (ws : List ℕ) (want : ℕ → ℕ) → Formed ws (suc k) → Weighed ws us (suc k) want → Weighed ws zs k want
-            go ws want t g =
-                let q : termAt ws k ≡ sum (termAt ws i) (termAt ws j) = node-built t (here t g) a in
-                both t g (node-order t (here t g) a) (rw q at (bounded t g))
-                (λ p m. rw d (parts-sum (rest t g open-at p) w (formAt p (termAt ws i)) (formAt p (termAt ws j)) (want p) (rw (q, form-sum p (termAt ws i) (termAt ws j)) at m)))
+            go : (ws : List ℕ) (n : ℕ) (only : Bool) (want : Entry → ℕ) → k < n → Formed ws n → Weighed ws us n (suc k) only want → Weighed ws zs n k only want
+            go ws n only want l t g =
+                let q : termAt ws k ≡ sum (termAt ws i) (termAt ws j) = node-built (formed l t g) (view l t g) a in
+                both l t g (node-order (formed l t g) (view l t g) a) (allowed-parts (rw q at (allowed l t g .bound)) (λ o. rw q at (allowed l t g .plain-term o)))
+                (λ r m. rw d (parts-sum (left-over l t g r) w (numberAt r (termAt ws i)) (numberAt r (termAt ws j)) (want r) (rw (q, number-sum (termAt ws i) (termAt ws j) r) at m)))
 
-        pub passed-difference : node ≡ Difference i j → w < 2 ^ 32 → y ≡ subW 0 w → Passed us zs (suc k) k
-        unfolding variableBound
-        passed-difference a small d = record { weighed = go }
+        pub passed-difference : node ≡ Difference i j → y ≡ subW 0 w → Passed us zs (suc k) k
+        unfolding variableBound plain
+        passed-difference a d = record { weighed = go }
           where
-            go : (ws : List ℕ) (want : ℕ → ℕ) → Formed ws (suc k) → Weighed ws us (suc k) want → Weighed ws zs k want
-            go ws want t g =
-                let q : termAt ws k ≡ difference (termAt ws i) (termAt ws j) = node-built t (here t g) a in
-                both t g (node-order t (here t g) a) (rw q at (bounded t g))
-                (λ p m. rw d (parts-difference (rest t g open-at p) w (formAt p (termAt ws i)) (formAt p (termAt ws j)) (want p) small (form-word p (termAt ws j)) (rw (q, form-difference p (termAt ws i) (termAt ws j)) at m)))
+            go : (ws : List ℕ) (n : ℕ) (only : Bool) (want : Entry → ℕ) → k < n → Formed ws n → Weighed ws us n (suc k) only want → Weighed ws zs n k only want
+            go ws n only want l t g =
+                let q : termAt ws k ≡ difference (termAt ws i) (termAt ws j) = node-built (formed l t g) (view l t g) a in
+                both l t g (node-order (formed l t g) (view l t g) a) (allowed-parts (rw q at (allowed l t g .bound)) (λ o. rw q at (allowed l t g .plain-term o)))
+                (λ r m. rw d (parts-difference (left-over l t g r) w (numberAt r (termAt ws i)) (numberAt r (termAt ws j)) (want r) small (number-word r (termAt ws j)) (rw (q, number-difference (termAt ws i) (termAt ws j) r) at m)))
 
 -- what `pass` may read and write
-pub words-enough : {us : List ℕ} {n : ℕ} → Weighable us n → place n ≤ length us
-words-enough y = omega (arith, y .formed .room, y .weighed .long)
+pub words-enough : {us : List ℕ} {m : ℕ} → Weighable us m → place m ≤ length us
+words-enough y = omega (arith, y .inside, y .formed .shaped .words, y .formed .shaped .fits, y .weighed .loaded .long)
 
-pub order-here : {us : List ℕ} {k : ℕ} → Weighable us (suc k) → {b : Bool} → b ≡ closedAt us k → b ≡ false → {n m : Node} → n ≡ viewOf us k → n ≡ m → InOrder k m
-order-here y h l v a = node-order (y .formed) (v ∙ open-view (y .formed) (y .weighed) (sym h ∙ l)) a
+pub order-here : {us : List ℕ} {k : ℕ} → Weighable us (suc k) → {n m : Node} → n ≡ viewOf us k → n ≡ m → InOrder k m
+order-here {us} {k} y v a = node-order (formed-less (suc k) (y .inside) (y .formed)) (v ∙ view-kept (y .weighed .loaded) (y .formed) k (y .inside)) a
 
 -- ---- the ways out of `spread`
 pub passed-start : (us : List ℕ) (n : ℕ) → Passed us us n n
-passed-start us n = record { weighed = λ ws want t g. g }
+passed-start us n = record { weighed = λ ws nodes only want l t g. g }
 
 module _ {us vs : List ℕ} {n m : ℕ} (a : Passed us vs n m) where
   pub weighable-more : Weighable us n → m ≤ n → (k : ℕ) → suc k ≡ m → Weighable vs (suc k)
   weighable-more y h k e = record {
     table = y .table;
+    nodes = y .nodes;
+    only = y .only;
     want = y .want;
-    formed = formed-less (suc k) (omega arith) (y .formed);
-    weighed = subst (λ x. Weighed (y .table) vs x (y .want)) (sym e) (a .weighed (y .table) (y .want) (y .formed) (y .weighed));
+    inside = omega (arith, y .inside);
+    formed = y .formed;
+    weighed = subst (λ x. Weighed (y .table) vs (y .nodes) x (y .only) (y .want)) (sym e) (a .weighed (y .table) (y .nodes) (y .only) (y .want) (y .inside) (y .formed) (y .weighed));
   }
 
   pub passed-more : {xs : List ℕ} (k : ℕ) → m ≤ n → suc k ≡ m → Passed vs xs (suc k) k → Passed us xs n k
   passed-more k h e b = record {
-    weighed = λ ws want t g. b .weighed ws want (formed-less (suc k) (omega arith) t) (subst (λ x. Weighed ws vs x want) (sym e) (a .weighed ws want t g));
+    weighed = λ ws nodes only want l t g. b .weighed ws nodes only want (omega arith) t (subst (λ x. Weighed ws vs nodes x only want) (sym e) (a .weighed ws nodes only want l t g));
   }
 
   pub passed-long : Weighable us n → length vs ≡ length us
-  passed-long y = a .weighed (y .table) (y .want) (y .formed) (y .weighed) .long ∙ sym (y .weighed .long)
+  passed-long y = a .weighed (y .table) (y .nodes) (y .only) (y .want) (y .inside) (y .formed) (y .weighed) .loaded .long ∙ sym (y .weighed .loaded .long)
 
   pub passed-all : m ≤ 0 → Passed us vs n 0
   passed-all h = let e : m ≡ 0 = omega arith in subst (λ x. Passed us vs n x) e a
 
 -- ---- reckoned by the table: the form of node i once, that of node j 2^32 - 1 times
-abbrev wanted : Term → Term → ℕ → ℕ
-wanted s t p = 0 + 1 * formAt p s + 4294967295 * formAt p t
+abbrev wanted : Term → Term → Entry → ℕ
+wanted s t q = 0 + 1 * numberAt q s + 4294967295 * numberAt q t
 
-area-last : (r x y : ℕ) → r + 0 ≈ 0 + 1 * x + 4294967295 * y → r + y ≈ addW 0 x
+area-last : (r z x y : ℕ) → z ≡ 0 → r + z ≈ 0 + 1 * x + 4294967295 * y → r + y ≈ addW 0 x
 unfolding addW
-area-last r x y h = omega arith
+area-last r z x y e h = omega arith
 
-module _ {ws us vs : List ℕ} {i j m : ℕ} (c : Comparable ws i j constantWord) (f : us ≡ givenTo (closedAt ws i) ws i 1) (h : vs ≡ givenTo (closedAt us j) us j 4294967295) (e : m ≡ max i j) where
-  formed-both : Formed ws (m + 1)
+term-last : (z x y : ℕ) → 0 + z ≈ 0 + 1 * x + 4294967295 * y → z + y ≈ x
+term-last z x y h = omega arith
+
+pub opaque-plain : (t : Term) → opaque t ≡ true → plain t ≡ false
+unfolding plain
+opaque-plain (constant c) h = clash refl h
+opaque-plain (variable v) h = clash refl h
+opaque-plain (sum s t) h = clash refl h
+opaque-plain (difference s t) h = clash refl h
+opaque-plain (mask s t) h = refl
+opaque-plain (shift count s) h = refl
+
+module _ {ws us vs : List ℕ} {i j n : ℕ} (c : Comparable ws i j constantWord) (e : n ≡ suc (max i j)) (f : us ≡ givenTo (valuedAt ws i) ws i 1) (h : vs ≡ givenTo (valuedAt us j) us j 4294967295) where
+  formed-both : Formed ws n
   formed-both = go (decLt i j)
     where
-      go : Dec (i < j) → Formed ws (m + 1)
-      go (yes l) = formed-less (m + 1) (omega arith) (c .right .formed)
-      go (no l) = formed-less (m + 1) (omega arith) (c .left .formed)
+      go : Dec (i < j) → Formed ws n
+      go (yes l) = formed-less n (omega arith) (c .right .formed)
+      go (no l) = formed-less n (omega arith) (c .left .formed)
 
-  start : Weighed ws ws (m + 1) (λ p. 0)
+  abbrev plains : Bool
+  plains = plain (termAt ws i) && plain (termAt ws j)
+
+  start : Weighed ws ws n n plains (λ q. 0)
   start = record {
-    long = refl;
+    loaded = record { long = refl; kept = λ p l r d. refl; left = λ k l q d. absurd (d refl) };
     small = λ p l. rw (c .cleared .word p l) (omega arith);
-    kept = λ p l d. refl;
     within = λ k l d. absurd (d refl);
-    sums = λ p l. rw (c .cleared .word p l, total-none ws p (m + 1));
-  }
-
-  loaded : Weighed ws vs (m + 1) (wanted (termAt ws i) (termAt ws j))
-  loaded = give-more (give-more start i 1 formed-both (omega arith) (c .left .within) f) j 4294967295 formed-both (omega arith) (c .right .within) h
-
-  pub weighable-both : Weighable vs (m + 1)
-  weighable-both = record { table = ws; want = wanted (termAt ws i) (termAt ws j); formed = formed-both; weighed = loaded }
-
-  pub reckoned-table : {xs : List ℕ} → Passed vs xs (m + 1) 0 → Reckoned ws xs (termAt ws i) (termAt ws j)
-  unfolding total
-  reckoned-table {xs} a = record {
-    area = λ p l. sub-only (getD xs p 0) (addW 0 (formAt p (termAt ws i))) (formAt p (termAt ws j)) (spent .small p l) (form-word p (termAt ws j)) (area-last (getD xs p 0) (formAt p (termAt ws i)) (formAt p (termAt ws j)) (spent .sums p l));
-    above = record { word = λ p l q. spent .kept p l (λ k r. absurd (omega arith)) };
-    long = spent .long;
+    sums = λ q l. rw (zero-area q l, total-zero ws ws q n (λ k m d. absurd (d refl)));
   }
     where
-      spent : Weighed ws xs 0 (wanted (termAt ws i) (termAt ws j))
-      spent = a .weighed ws (wanted (termAt ws i) (termAt ws j)) formed-both loaded
+      zero-area : (q : Entry) → Valid q → areaAt ws q ≡ 0
+      zero-area (inWord p) l = c .cleared .word p l
+      zero-area (ofTerm x) l = refl
+
+  both-given : Weighed ws vs n n plains (wanted (termAt ws i) (termAt ws j))
+  both-given =
+      give-more
+      (give-more start i 1 formed-both (omega arith) (omega arith) (record { bound = c .left .within; plain-term = λ o. and-left (plain (termAt ws i)) (plain (termAt ws j)) o }) f)
+      j 4294967295 formed-both (omega arith) (omega arith) (record { bound = c .right .within; plain-term = λ o. and-right (plain (termAt ws i)) (plain (termAt ws j)) o }) h
+
+  pub weighable-both : Weighable vs n
+  weighable-both = record { table = ws; nodes = n; only = plains; want = wanted (termAt ws i) (termAt ws j); inside = omega arith; formed = formed-both; weighed = both-given }
+
+  pub spread-both : {xs : List ℕ} → Passed vs xs n 0 → Spread ws xs n (termAt ws i) (termAt ws j)
+  spread-both {xs} a = record {
+    area = λ p l. sub-only (getD xs p 0) (addW 0 (formAt p (termAt ws i))) (formAt p (termAt ws j)) (spent .small p l) (form-word p (termAt ws j)) (area-last (getD xs p 0) (total ws xs (inWord p) n) (formAt p (termAt ws i)) (formAt p (termAt ws j)) (no-words p) (spent .sums (inWord p) l));
+    formed = formed-both;
+    loaded = spent .loaded;
+    sums = λ x o. term-last (total ws xs (ofTerm x) n) (numberAt (ofTerm x) (termAt ws i)) (numberAt (ofTerm x) (termAt ws j)) (spent .sums (ofTerm x) o);
+    none = λ o. record {
+      long = spent .loaded .long;
+      kept = λ p l r d. unweighed o p l r ((p - tableBase) / 3) refl (ℕ-discrete p (place ((p - tableBase) / 3) + 1)) (decLt ((p - tableBase) / 3) n);
+      left = λ k l q d. absurd (omega arith);
+    };
+  }
+    where
+      spent : Weighed ws xs n 0 plains (wanted (termAt ws i) (termAt ws j))
+      spent = a .weighed ws n plains (wanted (termAt ws i) (termAt ws j)) (omega arith) formed-both both-given
+
+      -- a masked or shifted term has no word of the area
+      no-words : (p : ℕ) → total ws xs (inWord p) n ≡ 0
+      no-words p = total-zero ws xs (inWord p) n (λ k l d. opaque-form p (termAt ws k) (spent .loaded .left k (omega arith) l d))
+
+      -- and a plain term is none
+      no-weight : plains ≡ true → (k : ℕ) → k < n → Dec (valueAt xs k ≡ valueAt ws k) → valueAt xs k ≡ valueAt ws k
+      no-weight o k l (yes d) = d
+      no-weight o k l (no d) = clash (opaque-plain (termAt ws k) (spent .loaded .left k (omega arith) l d)) (spent .within k l d .plain-term o)
+
+      unweighed : plains ≡ true → (p : ℕ) → areaWords ≤ p → p < hintBase → (k : ℕ) → (p - tableBase) / 3 ≡ k → Dec (p ≡ place k + 1) → Dec (k < n) → getD xs p 0 ≡ getD ws p 0
+      unweighed o p l i k e (yes d) (yes m) = rw d (no-weight o k m (ℕ-discrete (valueAt xs k) (valueAt ws k)))
+      unweighed o p l i k e (yes d) (no m) = spent .loaded .kept p l i (λ x q v r. omega arith)
+      unweighed o p l i k e (no d) m = spent .loaded .kept p l i (λ x q v r. d (let z : x ≡ k = omega arith in rw (← z) r))

@@ -7,14 +7,14 @@ use Prim.Native.Nat.{ℕ, zero, suc, _≤_, _<_}
 use lib.ListN.{length, getD}
 use lib.Dec.{eqb, ltb}
 use Rattle.model.specs.Word.{addW, subW}
-use Rattle.model.specs.Term.{Term}
+use Rattle.model.specs.Term.{Term, variable}
 use Rattle.model.specs.Linear.{constantOf, coefficientOf, variableBound}
 use Rattle.workspace.specs.Layout.{constantWord, areaWords, Same}
-use Rattle.terms.specs.Table.{termAt, Formed}
+use Rattle.terms.specs.Table.{termAt, plain, Formed}
 
 -- the number of a term's linear form that belongs to word k
 abbrev pub formIf : Bool → ℕ → Term → ℕ
-formIf true k t = coefficientOf k t
+formIf true k t = coefficientOf (variable k) t
 formIf false k t = constantOf t
 
 unfoldable pub formAt : ℕ → Term → ℕ
@@ -29,6 +29,12 @@ signed true w x = subW w x
 pub record Bounded (ws : List ℕ) (i n : ℕ) : Type 0 where
   pub formed : Formed ws (suc i)
   pub within : variableBound (termAt ws i) ≤ n
+
+-- and no mask or shift stands in it: it can be walked as a tree
+pub record Tree (ws : List ℕ) (i n : ℕ) : Type 0 where
+  pub formed : Formed ws (suc i)
+  pub within : variableBound (termAt ws i) ≤ n
+  pub plain-term : plain (termAt ws i) ≡ true
 
 -- us is ws with the linear form of t added to the area, or subtracted
 pub record Accumulated (ws us : List ℕ) (negative : Bool) (t : Term) : Type 0 where

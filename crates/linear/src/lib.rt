@@ -1,16 +1,18 @@
 // Linear forms modulo 2^32 (rule 12), reckoned in the workspace's first words: word v for variable v, and one word for the constant.
 // They are all zero between uses. Small terms are walked as trees. For others each node of the table is visited once, from the last on:
-// the value of an open node, which is zero between uses, holds its weight, the number of times that the form of its term is to be added.
+// where a node holds no value, that word, which is zero between uses, holds its weight, the number of times that the form of its term is to
+// be added. A masked or shifted term stands for itself: its weight stays, and nodes with the same term are brought together at the end.
 use terms::Node;
 use workspace::CONSTANT;
+use workspace::NOTES;
 ghost use mathlib.Core.Path.{_≡_};
 ghost use Prim.Native.Nat.{suc, _*_, _%_, _^_, _≤_, _<_, max};
 ghost use lib.ListN.{length, getD, set};
 ghost use Rattle.model.specs.Linear.{sameForm};
-ghost use Rattle.workspace.specs.Layout.{constantWord, areaWords};
-ghost use Rattle.terms.specs.Table.{place, closedAt, termAt};
-ghost use Rattle.linear.specs.Area.{signed, Bounded, Accumulated, Taken, Emptied, Comparable};
-ghost use Rattle.linear.specs.Weights.{givenTo, Weighable, Passed, Reckoned};
+ghost use Rattle.workspace.specs.Layout.{constantWord, areaWords, hintBase, Same};
+ghost use Rattle.terms.specs.Table.{place, valuedAt, termAt, Shaped};
+ghost use Rattle.linear.specs.Area.{signed, Tree, Accumulated, Taken, Emptied, Comparable};
+ghost use Rattle.linear.specs.Weights.{givenTo, weighsAt, Weighable, Passed, Partner, Settleable, Settled, Spread, Reckoned};
 ghost use Rattle.linear.specs.Comparison.{comparisonOf};
 
 // What two linear forms are to each other.
@@ -34,9 +36,9 @@ fn change(ws: &mut [u32], at: usize, x: u32, negative: bool)
     }
 }
 
-// Adds the linear form of node i's term to the area, or subtracts it.
+// Adds the linear form of node i's term, in which no mask or shift stands, to the area, or subtracts it.
 fn accumulate(ws: &mut [u32], i: usize, negative: bool)
-    requires { ⌜ Bounded (now ws) i constantWord ⌝ }
+    requires { ⌜ Tree (now ws) i constantWord ⌝ }
     ensures { λ _. ⌜ Accumulated (now (ws .entry)) (now (ws .exit)) negative (termAt (now (ws .entry)) i) ⌝ }
 {
     match terms::view(ws, i) {
@@ -50,6 +52,7 @@ fn accumulate(ws: &mut [u32], i: usize, negative: bool)
             accumulate(ws, l, negative);
             accumulate(ws, r, !negative);
         }
+        _ => {}
     }
 }
 
@@ -106,10 +109,10 @@ fn larger(a: usize, b: usize) -> usize
     a
 }
 
-// Adds w times the linear form of node k's term: to the area where the term is closed, else to the node's weight.
+// Adds w times the linear form of node k's term: to the constant where the node holds a value, else to the node's weight.
 fn give(ws: &mut [u32], k: usize, w: u32)
     requires { ⌜ place (suc k) ≤ length (now ws) ⌝ }
-    ensures { λ _. ⌜ now (ws .exit) ≡ givenTo (closedAt (now (ws .entry)) k) (now (ws .entry)) k w ⌝ }
+    ensures { λ _. ⌜ now (ws .exit) ≡ givenTo (valuedAt (now (ws .entry)) k) (now (ws .entry)) k w ⌝ }
 {
     let value = terms::value(ws, k);
     if terms::holds_value(ws, k) {
@@ -119,7 +122,7 @@ fn give(ws: &mut [u32], k: usize, w: u32)
     }
 }
 
-// Gives the weight of node k to its parts.
+// Gives the weight of node k to its parts; a masked or shifted term, which has a tag above 3, keeps it.
 fn pass(ws: &mut [u32], k: usize)
     requires { ⌜ Weighable (now ws) (suc k) ⌝ }
     ensures { λ _. ⌜ Passed (now (ws .entry)) (now (ws .exit)) (suc k) k ⌝ }
@@ -128,13 +131,12 @@ fn pass(ws: &mut [u32], k: usize)
     if w == 0 {
         return;
     }
-    if terms::holds_value(ws, k) {
+    if terms::holds_value(ws, k) | (3 < terms::tag(ws, k)) {
         return;
     }
     let node = terms::node_at(ws, k);
     terms::set_value(ws, k, 0);
     match node {
-        Node::Constant(_) => {}
         Node::Variable(v) => change(ws, fields::wide(v), w, false),
         Node::Sum(l, r) => {
             give(ws, l, w);
@@ -144,10 +146,11 @@ fn pass(ws: &mut [u32], k: usize)
             give(ws, l, w);
             give(ws, r, fields::sub(0, w));
         }
+        _ => {}
     }
 }
 
-// Gives the weights of the first nodes to their parts, from the last node on: all weights are zero afterwards.
+// Gives the weights of the first nodes to their parts, from the last node on.
 fn spread(ws: &mut [u32], nodes: usize)
     requires { ⌜ Weighable (now ws) nodes ⌝ }
     ensures { λ _. ⌜ Passed (now (ws .entry)) (now (ws .exit)) nodes 0 ⌝ }
@@ -159,43 +162,160 @@ fn spread(ws: &mut [u32], nodes: usize)
     }
 }
 
-// Adds the linear form of node i's term to the area, which is zero, and subtracts that of node j's, node by node.
-fn reckon_by_table(ws: &mut [u32], i: usize, j: usize)
+// Adds the linear form of node i's term to the area, which is zero, and subtracts that of node j's, node by node; both are among the first
+// nodes.
+fn reckon_by_table(ws: &mut [u32], i: usize, j: usize, nodes: usize)
     requires { ⌜ Comparable (now ws) i j constantWord ⌝ }
-    ensures { λ _. ⌜ Reckoned (now (ws .entry)) (now (ws .exit)) (termAt (now (ws .entry)) i) (termAt (now (ws .entry)) j) ⌝ }
+    requires { ⌜ nodes ≡ suc (max i j) ⌝ }
+    ensures { λ _. ⌜ Spread (now (ws .entry)) (now (ws .exit)) nodes (termAt (now (ws .entry)) i) (termAt (now (ws .entry)) j) ⌝ }
 {
     give(ws, i, 1);
     give(ws, j, 4294967295);
-    let last = larger(i, j);
-    spread(ws, last + 1);
+    spread(ws, nodes);
+}
+
+// ---- masked and shifted terms
+
+// Whether node k has a weight.
+fn weighs(ws: &[u32], k: usize) -> bool
+    requires { ⌜ place (suc k) ≤ length (now ws) ⌝ }
+    ensures { λ r. ⌜ r ≡ weighsAt (now (ws .entry)) k ⌝ }
+{
+    (terms::value(ws, k) != 0) & !terms::holds_value(ws, k)
+}
+
+// What is noted of node k: a node that may have the same term.
+fn noted(ws: &[u32], k: usize) -> usize
+    requires { ⌜ Shaped (now ws) (suc k) ⌝ }
+    ensures { λ r. ⌜ r < 65536 ⌝ }
+{
+    let two = ws[NOTES + k / 2];
+    if k % 2 == 0 {
+        fields::wide(two % 65536)
+    } else {
+        fields::wide(two / 65536)
+    }
+}
+
+// Notes that node k may have the term of node j.
+fn note(ws: &mut [u32], k: usize, j: usize)
+    requires { ⌜ Shaped (now ws) (suc k) ⌝ }
+    requires { ⌜ j < k ⌝ }
+    ensures { λ _. ⌜ Same 0 hintBase (now (ws .entry)) (now (ws .exit)) ⌝ }
+{
+    let at = NOTES + k / 2;
+    let two = ws[at];
+    if k % 2 == 0 {
+        ws[at] = two / 65536 * 65536 + (j as u32);
+    } else {
+        ws[at] = two % 65536 + 65536 * (j as u32);
+    }
+}
+
+// The last node before k that has a weight and the term of node k; k, if there is none. Equal terms need not know of each other by twins.
+fn searched(ws: &[u32], k: usize) -> usize
+    requires { ⌜ Shaped (now ws) (suc k) ⌝ }
+    ensures { λ r. ⌜ Partner (now (ws .entry)) (now (ws .entry)) k r ⌝ }
+{
+    let mut j = k;
+    while 0 < j {
+        j -= 1;
+        if weighs(ws, j) {
+            if terms::equal(ws, j, k) {
+                return j;
+            }
+        }
+    }
+    k
+}
+
+// A node before k that has the term of node k, the noted one if it has it; k, if none with a weight has it. What is found is noted, so that
+// each node is searched for once, however often forms are compared.
+fn partner(ws: &mut [u32], k: usize) -> usize
+    requires { ⌜ Shaped (now ws) (suc k) ⌝ }
+    ensures { λ r. ⌜ Partner (now (ws .entry)) (now (ws .exit)) k r ⌝ }
+{
+    let known = noted(ws, k);
+    if known < k {
+        if terms::equal(ws, known, k) {
+            return known;
+        }
+    }
+    let found = searched(ws, k);
+    if found < k {
+        note(ws, k, found);
+    }
+    found
+}
+
+// Adds the weight of node k to that of an earlier node with its term; false, if there is none. The weight of node k is zero afterwards.
+fn hand_over(ws: &mut [u32], k: usize) -> bool
+    requires { ⌜ Settleable (now ws) (suc k) ⌝ }
+    ensures { λ r. ⌜ Settled (now (ws .entry)) (now (ws .exit)) (suc k) k r ⌝ }
+{
+    if !weighs(ws, k) {
+        return true;
+    }
+    let w = terms::value(ws, k);
+    let j = partner(ws, k);
+    terms::set_value(ws, k, 0);
+    if j == k {
+        return false;
+    }
+    terms::set_value(ws, j, fields::add(terms::value(ws, j), w));
+    true
+}
+
+// Whether the weights that are left come to zero for each term, from the last of the first nodes on; they are all zero afterwards.
+fn settle(ws: &mut [u32], nodes: usize) -> bool
+    requires { ⌜ Settleable (now ws) nodes ⌝ }
+    ensures { λ r. ⌜ Settled (now (ws .entry)) (now (ws .exit)) nodes 0 r ⌝ }
+{
+    let mut zero = true;
+    let mut k = nodes;
+    while 0 < k {
+        k -= 1;
+        let handed = hand_over(ws, k);
+        zero = zero & handed;
+    }
+    zero
 }
 
 // ---- the comparison
 
-// Adds the linear form of node i's term to the area, which is zero, and subtracts that of node j's.
-fn reckon(ws: &mut [u32], i: usize, j: usize)
+// Adds the linear form of node i's term to the area, which is zero, and subtracts that of node j's. Whether each masked or shifted term
+// has the same coefficient in both.
+fn reckon(ws: &mut [u32], i: usize, j: usize) -> bool
     requires { ⌜ Comparable (now ws) i j constantWord ⌝ }
-    ensures { λ _. ⌜ Reckoned (now (ws .entry)) (now (ws .exit)) (termAt (now (ws .entry)) i) (termAt (now (ws .entry)) j) ⌝ }
+    ensures { λ r. ⌜ Reckoned (now (ws .entry)) (now (ws .exit)) (termAt (now (ws .entry)) i) (termAt (now (ws .entry)) j) r ⌝ }
 {
-    if terms::at_most(ws, i, SMALL) & terms::at_most(ws, j, SMALL) {
+    let plain = terms::plain(ws, i) & terms::plain(ws, j);
+    if plain & terms::at_most(ws, i, SMALL) & terms::at_most(ws, j, SMALL) {
         accumulate(ws, i, false);
         accumulate(ws, j, true);
-    } else {
-        reckon_by_table(ws, i, j);
+        return true;
     }
+    let nodes = larger(i, j) + 1;
+    reckon_by_table(ws, i, j, nodes);
+    if plain {
+        return true;
+    }
+    settle(ws, nodes)
 }
 
-// Compares the linear forms of the terms of nodes i and j, whose variables are among the first variables. The workspace is as it was.
+// Compares the linear forms of the terms of nodes i and j, whose variables are among the first variables. The workspace is as it was, but for
+// hints.
 pub fn compare(ws: &mut [u32], i: usize, j: usize, variables: usize) -> FormComparison
     requires { ⌜ Comparable (now ws) i j variables ⌝ }
     ensures { λ r. ⌜ r ≡ comparisonOf (sameForm (termAt (now (ws .entry)) i) (termAt (now (ws .entry)) j)) ⌝ }
-    ensures { λ _. ⌜ now (ws .exit) ≡ now (ws .entry) ⌝ }
+    ensures { λ _. ⌜ Same 0 hintBase (now (ws .entry)) (now (ws .exit)) ⌝ }
 {
     if terms::twins(ws, i, j) {
         return FormComparison::Same;
     }
-    reckon(ws, i, j);
-    if empty(ws, variables) {
+    let opaque = reckon(ws, i, j);
+    let zero = empty(ws, variables);
+    if zero & opaque {
         FormComparison::Same
     } else {
         FormComparison::Different

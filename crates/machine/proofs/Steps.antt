@@ -6,12 +6,12 @@ use mathlib.Core.List.{List}
 use lib.ListN.{length, getD, set}
 use lib.Dec.{ltb, eqb}
 use borrow.Author.Tests.{ltb-true}
-use Rattle.model.specs.Word.{addW, subW}
+use Rattle.model.specs.Word.{addW, subW, maskW, shiftW}
 use Rattle.model.specs.Policy.{Policy, readableWord, writableWord}
-use Rattle.model.specs.Machine.{State, next, branched, execute}
+use Rattle.model.specs.Machine.{State, next, assigned, branched, execute}
 use Rattle.model.specs.declared.Region.{Region}
 use Rattle.model.specs.declared.Instruction.{Instruction}
-use Rattle.model.specs.declared.Instruction.the-variants.{Set, Add, AddImmediate, Subtract, Load, Store, Jump, JumpLess, JumpEqual, Return}
+use Rattle.model.specs.declared.Instruction.the-variants.{Set, Add, AddImmediate, Subtract, Load, Store, Jump, JumpLess, JumpEqual, Return, Mask, Shift}
 use Rattle.machine.specs.declared.Progress.{Progress}
 use Rattle.machine.specs.declared.Progress.the-variants.{Next, Returned, WithoutRight}
 use Rattle.rights.specs.Right.{permits}
@@ -67,9 +67,22 @@ module _ (regions : List Region) (counter : ℕ) (registers memory : List ℕ) w
     unfolding execute
     adds a b x y e ex ey ew = onward instruction (Add d a b) e r (counter + 1) registers′ memory (done .0) (λ p u. rw (done .1, ew, ex, ey))
 
+    -- d := f of the word of a
+    of-one : (f : ℕ → ℕ) (q : Instruction) (a x : ℕ) → ((policy : Policy) → next (assigned s d (f (getD registers a 0))) ≡ execute policy s q)
+        → instruction ≡ q → x ≡ getD registers a 0 → w ≡ f x → Executed regions instruction s r registers′ memory
+    of-one f q a x is e ex ew = onward instruction q e r (counter + 1) registers′ memory (done .0) (λ p u. rw (done .1, ew, ex) (is p))
+
     pub adds-immediate : (a i x : ℕ) → instruction ≡ AddImmediate d a i → x ≡ getD registers a 0 → w ≡ addW x i → Executed regions instruction s r registers′ memory
     unfolding execute
-    adds-immediate a i x e ex ew = onward instruction (AddImmediate d a i) e r (counter + 1) registers′ memory (done .0) (λ p u. rw (done .1, ew, ex))
+    adds-immediate a i x = of-one (λ y. addW y i) (AddImmediate d a i) a x (λ p. refl)
+
+    pub masks : (a i x : ℕ) → instruction ≡ Mask d a i → x ≡ getD registers a 0 → w ≡ maskW x i → Executed regions instruction s r registers′ memory
+    unfolding execute
+    masks a i x = of-one (λ y. maskW y i) (Mask d a i) a x (λ p. refl)
+
+    pub shifts : (a i x : ℕ) → instruction ≡ Shift d a i → x ≡ getD registers a 0 → w ≡ shiftW i x → Executed regions instruction s r registers′ memory
+    unfolding execute
+    shifts a i x = of-one (λ y. shiftW i y) (Shift d a i) a x (λ p. refl)
 
     pub subtracts : (a b x y : ℕ) → instruction ≡ Subtract d a b → x ≡ getD registers a 0 → y ≡ getD registers b 0 → w ≡ subW x y → Executed regions instruction s r registers′ memory
     unfolding execute

@@ -142,5 +142,13 @@ pub fn execute(
             branch(taken, i, counter)
         }
         Instruction::Return => Progress::Returned,
+        Instruction::Mask { d, a, i } => {
+            let w = fields::mask(word(registers, a), i);
+            assign(d, w, counter, registers)
+        }
+        Instruction::Shift { d, a, i } => {
+            let w = fields::shift(word(registers, a), i);
+            assign(d, w, counter, registers)
+        }
     }
 }

@@ -12,7 +12,7 @@ use Rattle.model.specs.Annotation.{Annotation, annotationAt}
 use Rattle.model.specs.Routine.{Routine}
 use Rattle.model.specs.Term.{size}
 use Rattle.model.specs.declared.Instruction.{Instruction}
-use Rattle.model.specs.declared.Instruction.the-variants.{Set, Add, AddImmediate, Subtract, Load, Store, Jump, JumpLess, JumpEqual, Return}
+use Rattle.model.specs.declared.Instruction.the-variants.{Set, Add, AddImmediate, Subtract, Load, Store, Jump, JumpLess, JumpEqual, Return, Mask, Shift}
 use Rattle.model.proofs.Lists.{Every, _&_}
 use Rattle.model.proofs.Terms.{RegisterAtom, RegisterTerm}
 
@@ -28,6 +28,8 @@ WordInstruction (Jump i) = Unit
 WordInstruction (JumpLess a b i) = Unit
 WordInstruction (JumpEqual a b i) = Unit
 WordInstruction Return = Unit
+WordInstruction (Mask d a i) = i < 2 ^ 32
+WordInstruction (Shift d a i) = Unit
 
 pub record FormedAnnotation (size : ℕ) (a : Annotation) : Type 0 where
   pub index : a .index < size

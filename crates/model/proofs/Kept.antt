@@ -12,9 +12,8 @@ use Rattle.model.specs.Machine.{State, startOf, Step, word, address, ass
 use Rattle.model.specs.Policy.{Policy, readableWord, writableWord, readPolicy}
 use Rattle.model.specs.Result.{Result, stop, value}
 use Rattle.model.specs.Runner.{runFrom, readStart, runOf}
-use Rattle.model.specs.Samples.{right}
 use Rattle.model.specs.declared.Instruction.{Instruction}
-use Rattle.model.specs.declared.Instruction.the-variants.{Set, Add, AddImmediate, Subtract, Load, Store, Jump, JumpLess, JumpEqual, Return}
+use Rattle.model.specs.declared.Instruction.the-variants.{Set, Add, AddImmediate, Subtract, Load, Store, Jump, JumpLess, JumpEqual, Return, Mask, Shift}
 use Rattle.model.specs.declared.Refusal.{Refusal}
 use Rattle.model.proofs.Gives.{Gives, gives, gives-next, gives-value}
 use Rattle.model.proofs.Lists.{get-other}
@@ -56,6 +55,8 @@ module _ (policy : Policy) (w : ℕ) (shut : writableWord policy w ≡ false) wh
     execute-leaves (JumpLess a b i) = same-branched (ltb (word s a) (word s b)) i
     execute-leaves (JumpEqual a b i) = same-branched (eqb (word s a) (word s b)) i
     execute-leaves Return = return
+    execute-leaves (Mask d a i) = on refl
+    execute-leaves (Shift d a i) = on refl
 
   module _ (code : List Instruction) where
     step-leaves : (s : State) → Leaves w s (step policy code s)

@@ -3,6 +3,7 @@ pub mod Results
 pub mod Gives
 pub mod Words
 pub mod Terms
+pub mod Indeterminates
 pub mod LinearForm
 pub mod Rules
 pub mod Derivations

@@ -1,14 +1,16 @@
 -- Terms with the same linear form have the same value (rule 12). Assumes nothing.
 use Prim.Native.Nat.{ℕ, _≤_, _<_, _^_, _+_, _%_, zero, suc, _*_, max}
 use mathlib.Core.Bool.{Bool, true, false}
-use mathlib.Core.Path.{_≡_, refl, ap, _∙_, sym, ap₂}
+use mathlib.Core.List.{List, [], _∷_}
+use mathlib.Core.Path.{_≡_, refl, ap, _∙_, sym}
 use native.Mathlib.Omega.{arith}
-use lib.Dec.{eqb}
-use borrow.Author.Tests.{eqb-true, eqb-false, ne-eqb}
-use Rattle.model.specs.Linear.{constantOf, coefficientOf, variableBound, sameCoefficients, sameForm}
-use Rattle.model.specs.Term.{Term, eval, constant, variable, sum, difference}
+use borrow.Author.Tests.{eqb-true}
+use Rattle.model.specs.Linear.{constantOf, oneIf, coefficientOf, variableBound, variablesBelow, opaqueTerms, indeterminates, sameCoefficients, sameForm}
+use Rattle.model.specs.Term.{Term, eval, eqTerm, constant, variable, sum, difference, mask, shift}
 use Rattle.model.specs.Word.{addW, subW}
-use Rattle.model.proofs.Terms.{and-right, eval-word, WordEnv, and-left}
+use Rattle.model.proofs.Indeterminates.{stands, Standing, variable-among, complete}
+use Rattle.model.proofs.Lists.{every-left, every-right, every-head}
+use Rattle.model.proofs.Terms.{and-right, eval-word, WordEnv, and-left, same-term}
 use Rattle.model.proofs.Words.{sub-plain, _≈_, add-plain, add-below, mul-cong, add-cong, add-cancel, same-word, sub-below}
 
 constant-word : (t : Term) → constantOf t < 2 ^ 32
@@ -17,92 +19,122 @@ constant-word (constant c) = omega arith
 constant-word (variable v) = omega arith
 constant-word (sum s t) = add-below _ _
 constant-word (difference s t) = sub-below _ _
+constant-word (mask s t) = omega arith
+constant-word (shift count s) = omega arith
 
-coefficient-word : (v : ℕ) (t : Term) → coefficientOf v t < 2 ^ 32
+one-word : (b : Bool) → oneIf b < 2 ^ 32
+one-word true = omega arith
+one-word false = omega arith
+
+coefficient-word : (x t : Term) → coefficientOf x t < 2 ^ 32
 unfolding coefficientOf
-coefficient-word v (constant c) = omega arith
-coefficient-word v (variable w) = elim (eqb v w) as (λ b. (elim b as (λ _. ℕ) [ true ↦ 1 | false ↦ 0 ]) < 2 ^ 32) [ true ↦ omega arith | false ↦ omega arith ]
-coefficient-word v (sum s t) = add-below _ _
-coefficient-word v (difference s t) = sub-below _ _
+coefficient-word x (constant c) = omega arith
+coefficient-word x (variable w) = one-word (eqTerm x (variable w))
+coefficient-word x (sum s t) = add-below _ _
+coefficient-word x (difference s t) = sub-below _ _
+coefficient-word x (mask s t) = one-word (eqTerm x (mask s t))
+coefficient-word x (shift count s) = one-word (eqTerm x (shift count s))
 
 regroup : (a b p q e : ℕ) → (a + b) + (p + q) * e ≈ (a + p * e) + (b + q * e)
 regroup a b p q e = ap (λ x. x % 2 ^ 32) (omega arith)
 
+abbrev when : Bool → ℕ → ℕ
+when true n = n
+when false n = 0
+
+abbrev unless : Bool → ℕ → ℕ
+unless true n = 0
+unless false n = n
+
 module _ (env : ℕ → ℕ) where
-  -- the constant, and coefficient times variable for each variable below n
-  form : (n : ℕ) → Term → ℕ
-  form zero t = constantOf t
-  form (suc v) t = form v t + coefficientOf v t * env v
+  -- the constant, and coefficient times value for each indeterminate of a list, counted where it stands last
+  form : List Term → Term → ℕ
+  form [] t = constantOf t
+  form (x ∷ xs) t = form xs t + coefficientOf x t * unless (stands x xs) (eval env x)
 
-  form-constant : (n c : ℕ) → form n (constant c) ≡ c % 2 ^ 32
+  form-constant : (xs : List Term) (c : ℕ) → form xs (constant c) ≡ c % 2 ^ 32
   unfolding form constantOf coefficientOf
-  form-constant zero c = refl
-  form-constant (suc v) c = omega (arith, form-constant v c)
+  form-constant [] c = refl
+  form-constant (x ∷ xs) c = omega (arith, form-constant xs c)
 
-  form-sum : (n : ℕ) (s t : Term) → form n (sum s t) ≈ form n s + form n t
+  form-sum : (xs : List Term) (s t : Term) → form xs (sum s t) ≈ form xs s + form xs t
   unfolding form constantOf coefficientOf
-  form-sum zero s t = add-plain (constantOf s) (constantOf t)
-  form-sum (suc v) s t =
-      let p = coefficientOf v s in
-      let q = coefficientOf v t in
-      add-cong _ _ _ _ (form-sum v s t) (mul-cong (addW p q) (p + q) (env v) (add-plain p q)) ∙ regroup (form v s) (form v t) p q (env v)
+  form-sum [] s t = add-plain (constantOf s) (constantOf t)
+  form-sum (x ∷ xs) s t =
+      let p = coefficientOf x s in
+      let q = coefficientOf x t in
+      let e = unless (stands x xs) (eval env x) in
+      add-cong _ _ _ _ (form-sum xs s t) (mul-cong (addW p q) (p + q) e (add-plain p q)) ∙ regroup (form xs s) (form xs t) p q e
 
-  form-difference : (n : ℕ) (s t : Term) → form n (difference s t) + form n t ≈ form n s
+  form-difference : (xs : List Term) (s t : Term) → form xs (difference s t) + form xs t ≈ form xs s
   unfolding form constantOf coefficientOf
-  form-difference zero s t = sub-plain (constantOf s) (constantOf t) (constant-word t)
-  form-difference (suc v) s t =
-      let p = coefficientOf v s in
-      let q = coefficientOf v t in
-      sym (regroup (form v (difference s t)) (form v t) (subW p q) q (env v))
-      ∙ add-cong _ _ _ _ (form-difference v s t) (mul-cong (subW p q + q) p (env v) (sub-plain p q (coefficient-word v t)))
+  form-difference [] s t = sub-plain (constantOf s) (constantOf t) (constant-word t)
+  form-difference (x ∷ xs) s t =
+      let p = coefficientOf x s in
+      let q = coefficientOf x t in
+      let e = unless (stands x xs) (eval env x) in
+      sym (regroup (form xs (difference s t)) (form xs t) (subW p q) q e)
+      ∙ add-cong _ _ _ _ (form-difference xs s t) (mul-cong (subW p q + q) p e (sub-plain p q (coefficient-word x t)))
 
-  -- a variable's form is its value once the variable is counted
-  form-later : (n w : ℕ) → n ≤ w → form n (variable w) ≡ 0
-  unfolding form constantOf coefficientOf
-  form-later zero w h = refl
-  form-later (suc v) w h = rw (ne-eqb v w (omega arith), coefficientOf) (omega (arith, form-later v w (omega arith)))
-
-  form-variable : (n w : ℕ) → w < n → form n (variable w) ≡ env w
-  unfolding form constantOf coefficientOf
-  form-variable zero w h = omega arith
-  form-variable (suc v) w h = go (form-variable v w) (eqb v w) refl
+  -- the form of an indeterminate is its value, if it stands in the list
+  form-one : (y : Term) → constantOf y ≡ 0 → ((x : Term) → coefficientOf x y ≡ oneIf (eqTerm x y)) → (xs : List Term)
+      → form xs y ≡ when (stands y xs) (eval env y)
+  unfolding form stands
+  form-one y c k [] = c
+  form-one y c k (x ∷ xs) = go (eqTerm x y) refl (stands y xs) refl (form-one y c k xs)
     where
-      go : (w < v → form v (variable w) ≡ env w) → (b : Bool) → eqb v w ≡ b → form (suc v) (variable w) ≡ env w
-      go before true e = rw (e, coefficientOf) (omega (arith, form-later v w (omega (arith, eqb-true)), ap env (eqb-true v w e)))
-      go before false e = rw (e, coefficientOf) (omega (arith, before (omega (arith, eqb-false v w e))))
+      go : (b : Bool) → eqTerm x y ≡ b → (o : Bool) → stands y xs ≡ o → form xs y ≡ when (stands y xs) (eval env y)
+          → form (x ∷ xs) y ≡ when (stands y (x ∷ xs)) (eval env y)
+      go true e true f h = rw (k x, e, same-term x y e, f) (omega (arith, rw f at h))
+      go true e false f h = rw (k x, e, same-term x y e, f) (omega (arith, rw f at h))
+      go false e o f h = rw (k x, e) (omega (arith, h))
 
-  module _ (words : WordEnv env) where
+  module _ (words : WordEnv env) (n : ℕ) (xs : List Term) (numbered : Standing xs (variablesBelow n)) where
+    known : (y : Term) → constantOf y ≡ 0 → ((x : Term) → coefficientOf x y ≡ oneIf (eqTerm x y)) → stands y xs ≡ true → eval env y ≈ form xs y
+    known y c k e = ap (λ x. x % 2 ^ 32) (sym (form-one y c k xs ∙ rw e))
+
     -- the value is congruent to the form
-    eval-form : (n : ℕ) (t : Term) → variableBound t ≤ n → eval env t ≈ form n t
-    unfolding eval variableBound
-    eval-form n (constant c) h = omega (arith, form-constant n c)
-    eval-form n (variable v) h = ap (λ x. x % 2 ^ 32) (sym (form-variable n v (omega arith)))
-    eval-form n (sum s t) h =
+    eval-form : (t : Term) → variableBound t ≤ n → Standing xs (opaqueTerms t) → eval env t ≈ form xs t
+    unfolding eval variableBound opaqueTerms constantOf coefficientOf
+    eval-form (constant c) h o = omega (arith, form-constant xs c)
+    eval-form (variable v) h o = known (variable v) refl (λ x. refl) (variable-among n v (omega arith) numbered)
+    eval-form (sum s t) h o =
         add-plain (eval env s) (eval env t)
-        ∙ add-cong _ _ _ _ (eval-form n s (omega arith)) (eval-form n t (omega arith))
-        ∙ sym (form-sum n s t)
-    eval-form n (difference s t) h =
+        ∙ add-cong _ _ _ _ (eval-form s (omega arith) (every-left (opaqueTerms s) _ o)) (eval-form t (omega arith) (every-right (opaqueTerms s) _ o))
+        ∙ sym (form-sum xs s t)
+    eval-form (difference s t) h o =
         let a = eval env s in
         let b = eval env t in
-        add-cancel (subW a b) (form n (difference s t)) (form n t) (
-        add-cong (subW a b) (subW a b) _ _ refl (sym (eval-form n t (omega arith)))
+        add-cancel (subW a b) (form xs (difference s t)) (form xs t) (
+        add-cong (subW a b) (subW a b) _ _ refl (sym (eval-form t (omega arith) (every-right (opaqueTerms s) _ o)))
         ∙ sub-plain a b (eval-word env t words)
-        ∙ eval-form n s (omega arith)
-        ∙ sym (form-difference n s t))
+        ∙ eval-form s (omega arith) (every-left (opaqueTerms s) _ o)
+        ∙ sym (form-difference xs s t))
+    eval-form (mask s t) h o = known (mask s t) refl (λ x. refl) (every-head o)
+    eval-form (shift count s) h o = known (shift count s) refl (λ x. refl) (every-head o)
 
-  -- the same coefficients make the same form
-  same-form : (n : ℕ) (s t : Term) → constantOf s ≡ constantOf t → sameCoefficients n s t ≡ true → form n s ≡ form n t
+  -- with the same coefficients, two forms differ as their constants do
+  same-coefficients : (xs : List Term) (s t : Term) → sameCoefficients xs s t ≡ true → form xs s + constantOf t ≡ form xs t + constantOf s
   unfolding form sameCoefficients
-  same-form zero s t c h = c
-  same-form (suc v) s t c h =
-      ap₂ (λ f p. f + p * env v) (same-form v s t c (search and-left)) (eqb-true _ _ (search and-right))
+  same-coefficients [] s t h = omega arith
+  same-coefficients (x ∷ xs) s t h =
+      rw (eqb-true (coefficientOf x s) (coefficientOf x t) (search and-left)) (omega (arith, same-coefficients xs s t (search and-right)))
+
+-- with the same coefficients, two values differ as the constants do
+values-differ : (env : ℕ → ℕ) → WordEnv env → (s t : Term) → sameCoefficients (indeterminates s t) s t ≡ true
+    → eval env s + constantOf t ≈ eval env t + constantOf s
+values-differ env words s t h =
+    let all = complete s t in
+    let value-of = eval-form env words (max (variableBound s) (variableBound t)) (indeterminates s t) (all .numbered) in
+    add-cong _ _ _ _ (value-of s (omega arith) (all .first)) refl
+    ∙ ap (λ x. x % 2 ^ 32) (same-coefficients env (indeterminates s t) s t h)
+    ∙ sym (add-cong _ _ _ _ (value-of t (omega arith) (all .second)) refl)
 
 pub linear-sound : (env : ℕ → ℕ) → WordEnv env → (s t : Term) → sameForm s t ≡ true → eval env s ≡ eval env t
 unfolding sameForm
 linear-sound env words s t h =
-    let n = max (variableBound s) (variableBound t) in
-    let e = same-form env n s t (eqb-true _ _ (search and-left)) (search and-right) in
+    let e = values-differ env words s t (search and-right) in
     same-word
-    (eval-form env words n s (omega arith) ∙ ap (λ x. x % 2 ^ 32) e ∙ sym (eval-form env words n t (omega arith)))
+    (add-cancel (eval env s) (eval env t) (constantOf t) (rw (eqb-true (constantOf s) (constantOf t) (search and-left)) at e))
     (eval-word env s words)
     (eval-word env t words)

@@ -17,7 +17,7 @@ use Rattle.model.specs.Property.{Words}
 use Rattle.model.specs.Term.{Term, eval, substitute, constant, difference}
 use Rattle.model.specs.Word.{addW}
 use Rattle.model.specs.declared.Instruction.{Instruction}
-use Rattle.model.specs.declared.Instruction.the-variants.{Set, Add, AddImmediate, Subtract, Load, Store, Jump, JumpLess, JumpEqual, Return}
+use Rattle.model.specs.declared.Instruction.the-variants.{Set, Add, AddImmediate, Subtract, Load, Store, Jump, JumpLess, JumpEqual, Return, Mask, Shift}
 use Rattle.model.proofs.Derivations.{GoalHolds}
 use Rattle.model.proofs.Lists.{map-set, every-right, every-left, every-tail, every-head, Every, below-set, _&_}
 use Rattle.model.proofs.Rules.{ClaimHolds}
@@ -167,6 +167,8 @@ loadedBy m (Jump i) = []
 loadedBy m (JumpLess a b i) = []
 loadedBy m (JumpEqual a b i) = []
 loadedBy m Return = []
+loadedBy m (Mask d a i) = []
+loadedBy m (Shift d a i) = []
 
 module _ (policy : Policy) (code : List Instruction) where
   -- what the machine loads within so many steps: the values of the block's further variables, known before it runs

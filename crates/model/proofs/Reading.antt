@@ -9,7 +9,7 @@ use lib.ListN.{length, getD}
 use borrow.Author.Tests.{ltb-true, leb-true}
 use Rattle.model.specs.Annotation.{Annotation, annotationFrom, annotationsFrom, readAnnotations}
 use Rattle.model.specs.Atom.{Atom}
-use Rattle.model.specs.Expression.{Form, forms, registerCount, Nodes, nodeOf, nodesAt, expressionAt, atomAt, atomsAt, four-byte-constant, two-byte-variable, two-expressions}
+use Rattle.model.specs.Expression.{Form, forms, registerCount, Nodes, nodeOf, nodesAt, expressionAt, atomAt, atomsAt, four-byte-constant, two-byte-variable, two-expressions, count-and-expression}
 use Rattle.model.specs.Field.{fault}
 use Rattle.model.specs.Instruction.{provided, operations, decode}
 use Rattle.model.specs.Package.{immediateStart, annotationStart, proofStart, mostInstructions, readHeader, instructionsFrom, readCode, codeOf}
@@ -35,12 +35,14 @@ FormedForm : Form → Type 0
 FormedForm four-byte-constant = Unit
 FormedForm two-byte-variable = Unit
 FormedForm (two-expressions operation) = (s t : Term) → RegisterTerm s → RegisterTerm t → RegisterTerm (operation s t)
+FormedForm (count-and-expression operation) = (count : ℕ) (s : Term) → RegisterTerm s → RegisterTerm (operation count s)
 
 forms-formed : Every FormedForm forms
 unfolding FormedForm RegisterTerm
 forms-formed =
     let both : (s t : Term) → RegisterTerm s → RegisterTerm t → RegisterTerm s × RegisterTerm t = λ s t v w. (v, w) in
-    tt & tt & both & both & empty
+    let one : (count : ℕ) (s : Term) → RegisterTerm s → RegisterTerm s = λ count s v. v in
+    tt & tt & both & both & both & one & empty
 
 module _ (bytes : List ℕ) (end : ℕ) where
   abbrev NodesFormed : Nodes → Type 0
@@ -54,6 +56,8 @@ module _ (bytes : List ℕ) (end : ℕ) where
       gives-next λ v _. gives-then (gives-check (ltb v registerCount) (fault (p + 1))) λ _ l. gives (ltb-true v registerCount l)
   node-formed operand each (two-expressions operation) w left p =
       gives-then (each (left - 1) (p + 1)) λ s u. gives-then (each (s .2) (s .1)) λ t v. gives (w (s .0) (t .0) u v)
+  node-formed operand each (count-and-expression operation) w left p =
+      gives-next λ count _. gives-next λ _ _. gives-then (each (left - 1) (p + 2)) λ s u. gives (w count (s .0) u)
 
   nodes-formed : (depth left p : ℕ) → NodesFormed (nodesAt bytes end registerCount depth left p)
   unfolding nodesAt
@@ -124,7 +128,7 @@ provided-word test instruction w = gives-next λ _ _. gives w
 
 operations-word : Every (λ operation. (d a b i : ℕ) → i < 2 ^ 32 → Gives WordInstruction (operation d a b i)) operations
 unfolding WordInstruction
-operations-word = search (_&_, empty, provided-word) depth 24
+operations-word = search (_&_, empty, provided-word) depth 28
 
 decode-word : (op d a b i : ℕ) → i < 2 ^ 32 → Gives WordInstruction (decode op d a b i)
 unfolding decode

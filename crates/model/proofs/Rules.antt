@@ -1,28 +1,28 @@
 -- Each rule is sound: where its premises hold under an environment, so does the claim. Assumes nothing.
 use Prim.Native.Nat.{ℕ, _≤_, _<_, _^_, _+_, zero, suc}
-use mathlib.Core.Bool.{Bool, true, _&&_, false, _||_}
+use mathlib.Core.Bool.{Bool, true, _&&_}
 use mathlib.Core.List.{List, [], _∷_}
 use mathlib.Core.Path.{_≡_, refl, ap, _∙_, sym, subst, ap₂}
 use native.Mathlib.Omega.{arith}
-use lib.Dec.{ltb}
+use lib.Dec.{ltb, eqb}
 use lib.ListN.{getElem?}
-use borrow.Author.Tests.{leb-true, lt-ltb, le-leb}
+use borrow.Author.Tests.{leb-true, lt-ltb, le-leb, eqb-true}
 use Rattle.model.specs.Atom.{Atom, less, Compares, holds, Holds, AllHold, eqAtom}
 use Rattle.model.specs.Goals.{Claim, Goal, atom, readable, writable}
 use Rattle.model.specs.Linear.{sameForm}
 use Rattle.model.specs.Policy.{Policy, mayRead, mayWrite, covers, someRegion, readableWord, writableWord, regionFits}
-use Rattle.model.specs.Result.{_>>=_, check, found, misfit, value}
-use Rattle.model.specs.Rule.{Rule, Format, rules, atomOf, sidesOf, readableOf, writableOf, sumOf, differenceOf, operandsOf, regionPremises, premises, assumption, equal-reflexive, at-most-reflexive, evaluation, equal-symmetric, equal-transitive, at-most-transitive, less-at-most, at-most-less, at-most-of-less, at-most-of-equal, congruence, linear, zero-at-most, sum-monotone, difference-monotone, successor-at-most, below-successor, sum-no-overflow, less-of-at-most, unequal-of-less, unequal-symmetric, in-readable-region, in-writable-region, contradiction, plain, with-index, with-term, with-region}
-use Rattle.model.specs.Samples.{right}
-use Rattle.model.specs.Term.{Term, eval, closed, eqTerm, constant, variable, sum, difference}
-use Rattle.model.specs.Word.{addW, subW}
+use Rattle.model.specs.Result.{Fit, _>>=_, check, found, misfit, value}
+use Rattle.model.specs.Rule.{Rule, Format, rules, atomOf, sidesOf, readableOf, writableOf, pairOf, sumOf, differenceOf, maskOf, shiftOf, equalPairs, congruent, regionPremises, premises, assumption, equal-reflexive, at-most-reflexive, evaluation, equal-symmetric, equal-transitive, at-most-transitive, less-at-most, at-most-less, at-most-of-less, at-most-of-equal, congruence, linear, zero-at-most, sum-monotone, difference-monotone, successor-at-most, below-successor, sum-no-overflow, less-of-at-most, unequal-of-less, unequal-symmetric, in-readable-region, in-writable-region, contradiction, mask-at-most, shift-at-most, shift-bounded, plain, with-index, with-term, with-region}
+use Rattle.model.specs.Term.{Term, eval, closed, eqTerm, constant, variable, sum, difference, mask, shift}
+use Rattle.model.specs.Word.{addW, subW, maskW, shiftW}
 use Rattle.model.specs.declared.Comparison.{Comparison}
 use Rattle.model.specs.declared.Comparison.the-variants.{Equal, Unequal, Less, AtMost}
 use Rattle.model.specs.declared.Region.{Region}
 use Rattle.model.proofs.Gives.{Gives, gives-map, gives-check, gives-element, gives, gives-then, stops}
 use Rattle.model.proofs.LinearForm.{linear-sound}
 use Rattle.model.proofs.Lists.{empty, Every, _&_}
-use Rattle.model.proofs.Terms.{same-atom, same-term, and-both, and-right, same-kind, eval-word, WordEnv, and-left, closed-holds}
+use Rattle.model.proofs.Terms.{same-atom, same-term, and-both, and-right, same-kind, eval-word, WordEnv, and-left, closed-holds, or-right, with-tag}
+use Rattle.model.proofs.Words.{masked-at-most, shifted-at-most, shifted-monotone}
 
 -- what a claim says under an environment
 unfoldable pub ClaimHolds : Policy → (ℕ → ℕ) → Claim → Type 0
@@ -67,32 +67,40 @@ module _ (policy : Policy) (env : ℕ → ℕ) where
 
 module _ (env : ℕ → ℕ) where
   pub sum-of : (t : Term) → Gives (λ s. eval env t ≡ addW (eval env (s .0)) (eval env (s .1))) (sumOf t)
-  unfolding sumOf eval
-  sum-of (constant c) = stops
-  sum-of (variable v) = stops
-  sum-of (sum s t) = gives refl
-  sum-of (difference s t) = stops
+  unfolding sumOf pairOf eval
+  sum-of t = gives-then (gives-check _ _) λ _ e. gives (ap (eval env) (sym (with-tag 2 t e)))
 
   pub difference-of : (t : Term) → Gives (λ s. eval env t ≡ subW (eval env (s .0)) (eval env (s .1))) (differenceOf t)
-  unfolding differenceOf eval
-  difference-of (constant c) = stops
-  difference-of (variable v) = stops
-  difference-of (sum s t) = stops
-  difference-of (difference s t) = gives refl
+  unfolding differenceOf pairOf eval
+  difference-of t = gives-then (gives-check _ _) λ _ e. gives (ap (eval env) (sym (with-tag 3 t e)))
 
-  pub operands-of : (l r : Term)
-      → Gives (λ o. eval env (o .0) ≡ eval env (o .2) → eval env (o .1) ≡ eval env (o .3) → eval env l ≡ eval env r) (operandsOf l r)
-  unfolding operandsOf eval
-  operands-of (constant c) r = stops
-  operands-of (variable x) r = stops
-  operands-of (sum s t) r = gives-then (sum-of r) λ o h. gives (λ p q. ap₂ addW p q ∙ sym h)
-  operands-of (difference s t) r = gives-then (difference-of r) λ o h. gives (λ p q. ap₂ subW p q ∙ sym h)
+  pub mask-of : (t : Term) → Gives (λ s. eval env t ≡ maskW (eval env (s .0)) (eval env (s .1))) (maskOf t)
+  unfolding maskOf pairOf eval
+  mask-of t = gives-then (gives-check _ _) λ _ e. gives (ap (eval env) (sym (with-tag 4 t e)))
+
+  pub shift-of : (t : Term) → Gives (λ s. eval env t ≡ shiftW (s .0) (eval env (s .1))) (shiftOf t)
+  unfolding shiftOf eval
+  shift-of t = gives-then (gives-check _ _) λ _ e. gives (ap (eval env) (sym (with-tag 5 t e)))
+
+  -- two terms of one operation, whose operands are equal
+  equal-pairs : (operation : ℕ → ℕ → ℕ) (a b u : Term) {operands : Fit (Term × Term)}
+      → Gives (λ s. eval env u ≡ operation (eval env (s .0)) (eval env (s .1))) operands
+      → Gives (λ atoms. AllHold env atoms → operation (eval env a) (eval env b) ≡ eval env u) (equalPairs a b operands)
+  unfolding equalPairs AllHold Holds Compares
+  equal-pairs operation a b u h = gives-then h λ _ e. gives (λ p. ap₂ operation (p .0) (p .1 .0) ∙ sym e)
+
+  pub congruent-of : (l r : Term) → Gives (λ atoms. AllHold env atoms → eval env l ≡ eval env r) (congruent l r)
+  unfolding congruent eval AllHold Holds Compares
+  congruent-of (constant c) r = stops
+  congruent-of (variable x) r = stops
+  congruent-of (sum a b) r = equal-pairs addW a b r (sum-of r)
+  congruent-of (difference a b) r = equal-pairs subW a b r (difference-of r)
+  congruent-of (mask a b) r = equal-pairs maskW a b r (mask-of r)
+  congruent-of (shift count a) r =
+      gives-then (shift-of r) λ o h.
+      gives-then (gives-check (eqb count (o .0)) misfit) λ _ e. gives (λ p. ap₂ shiftW (eqb-true count (o .0) e) (p .0) ∙ sym h)
 
 -- ---- regions
-
-or-right : (a b : Bool) → b ≡ true → (a || b) ≡ true
-or-right true b h = refl
-or-right false b h = h
 
 -- region j fits, and where it covers a word and has the right, some region does
 pub region-at : (right : Region → Bool) (memory : ℕ) (regions : List Region) (j : ℕ) → Every (λ r. regionFits memory r ≡ true) regions
@@ -186,10 +194,9 @@ module _ (policy : Policy) (fit : RegionsFit policy) (g : Goal) (env : ℕ → �
   -- ---- rules 11 to 13
 
   congruence-sound : SoundRule congruence
-  unfolding premises Compares AllHold Holds
+  unfolding premises Compares
   congruence-sound c =
-      gives-then (sides policy env Equal c) λ s enough.
-      gives-then (operands-of env (s .0) (s .1)) λ o k. gives (λ p. enough (k (p .0) (p .1 .0)))
+      gives-then (sides policy env Equal c) λ s enough. gives-map (λ _ k p. enough (k p)) (congruent-of env (s .0) (s .1))
 
   linear-rule-sound : SoundRule linear
   unfolding premises Compares
@@ -285,6 +292,33 @@ module _ (policy : Policy) (fit : RegionsFit policy) (g : Goal) (env : ℕ → �
   unfolding premises AllHold Holds Compares
   contradiction-sound m c = gives {a = less m m ∷ []} (λ p. absurd (omega arith))
 
+  -- ---- rules 25 to 27
+
+  mask-at-most-sound : SoundRule mask-at-most
+  unfolding premises Compares
+  mask-at-most-sound c =
+      gives-then (sides policy env AtMost c) λ s enough.
+      gives-then (mask-of env (s .0)) λ l u.
+      gives-then (same (l .1) (s .1)) λ _ e.
+      gives (λ _. enough (omega (arith, u, e, masked-at-most (eval env (l .0)) (eval env (l .1)))))
+
+  shift-at-most-sound : SoundRule shift-at-most
+  unfolding premises Compares
+  shift-at-most-sound c =
+      gives-then (sides policy env AtMost c) λ s enough.
+      gives-then (shift-of env (s .0)) λ l u.
+      gives-then (same (l .1) (s .1)) λ _ e.
+      gives (λ _. enough (omega (arith, u, e, shifted-at-most (l .0) (eval env (l .1)))))
+
+  shift-bounded-sound : SoundRule shift-bounded
+  unfolding premises Compares eval
+  shift-bounded-sound c =
+      gives-then (sides policy env AtMost c) λ s enough.
+      gives-then (shift-of env (s .0)) λ l u.
+      gives-then (same (s .1) (constant (shiftW (l .0) 4294967295))) λ _ e.
+      let most = shifted-monotone (l .0) (eval env (l .1)) 4294967295 (omega (arith, eval-word env (l .1) words)) in
+      gives (λ _. enough (omega (arith, u, e, most, shifted-at-most (l .0) 4294967295)))
+
   -- ---- the table of rules
 
   abbrev pub FormatSound : Format → Type 0
@@ -320,4 +354,7 @@ module _ (policy : Policy) (fit : RegionsFit policy) (g : Goal) (env : ℕ → �
       & in-readable-region-sound
       & in-writable-region-sound
       & contradiction-sound
+      & mask-at-most-sound
+      & shift-at-most-sound
+      & shift-bounded-sound
       & empty

@@ -1,9 +1,13 @@
--- The commissioning samples that are marked (P): evaluated by the definitions, each has the answer that document 01 gives. Assumes nothing.
+-- The samples: evaluated by the definitions, each has the answer that document 01, or 02, gives. Assumes nothing.
 use mathlib.Core.Bool.{true}
 use mathlib.Core.Path.{_≡_, refl}
-use Rattle.model.specs.Samples.{allRight, samples}
+use Rattle.model.specs.Samples.{allRight, samples, packaged, maskSamples}
 
--- every sample has its answer
+-- every sample that is marked (P) has its answer
 pub samples-right : allRight samples ≡ true
 unfolding allRight
 samples-right = refl
+
+pub masks-right : allRight maskSamples ≡ true
+unfolding allRight packaged
+masks-right = refl

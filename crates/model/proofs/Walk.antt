@@ -17,11 +17,10 @@ use Rattle.model.specs.Policy.{Policy}
 use Rattle.model.specs.Property.{Permitted, Ready}
 use Rattle.model.specs.Result.{found}
 use Rattle.model.specs.Routine.{Routine}
-use Rattle.model.specs.Samples.{right}
-use Rattle.model.specs.Term.{Term, eval, constant, variable, sum, difference}
-use Rattle.model.specs.Word.{addW, subW}
+use Rattle.model.specs.Term.{Term, eval, constant, variable, sum, difference, mask, shift}
+use Rattle.model.specs.Word.{addW, subW, maskW, shiftW}
 use Rattle.model.specs.declared.Instruction.{Instruction}
-use Rattle.model.specs.declared.Instruction.the-variants.{Set, Add, AddImmediate, Subtract, Load, Store, Jump, JumpLess, JumpEqual, Return}
+use Rattle.model.specs.declared.Instruction.the-variants.{Set, Add, AddImmediate, Subtract, Load, Store, Jump, JumpLess, JumpEqual, Return, Mask, Shift}
 use Rattle.model.proofs.Derivations.{GoalHolds, Sound, sound-goals, sound-rest}
 use Rattle.model.proofs.Formed.{FormedRoutine, WordInstruction}
 use Rattle.model.proofs.Lists.{every-at, below-get, every-head, Every, get-inside}
@@ -192,6 +191,14 @@ module _ (policy : Policy) (routine : Routine) (formed : FormedRoutine routine)
         (λ t. rw (register-value h a, register-value h b) (eqb-false (word m a) (word m b) t))
         refl _ refl q
     instruction-safe Return f w q = return-safe f q
+    instruction-safe (Mask d a i) f w q =
+        let t = mask (termOf s a) (constant i) in
+        let worth = ap₂ maskW (register-value h a) (mod-eq-of-lt w) in
+        assigns (Mask d a i) f refl tt d t _ worth (rw worth at (eval-word env t wordEnv)) refl _ q
+    instruction-safe (Shift d a i) f w q =
+        let t = shift i (termOf s a) in
+        let worth = ap (shiftW i) (register-value h a) in
+        assigns (Shift d a i) f refl tt d t _ worth (rw worth at (eval-word env t wordEnv)) refl _ q
 
   -- ---- the walk
 

@@ -1,8 +1,11 @@
--- Laws of sums and differences modulo 2^32. Assumes nothing.
-use Prim.Native.Nat.{ℕ, _≤_, _<_, _^_, _+_, _%_, zero, suc, _*_, _-_}
+-- Laws of sums and differences modulo 2^32, of masks and of shifts. Assumes nothing.
+use Prim.Native.Nat.{ℕ, _≤_, _<_, _^_, _+_, _%_, zero, suc, _*_, _-_, _/_}
 use mathlib.Core.Path.{_≡_}
+use native.Mathlib.Nat.{div-le-self, mul-div-le, le-div-iff-mul-le, mul-comm}
 use native.Mathlib.Omega.{arith}
-use Rattle.model.specs.Word.{addW, subW}
+use lib.Bits.{and-le-r}
+use lib.Pow.{pow-pos}
+use Rattle.model.specs.Word.{addW, subW, maskW, shiftW}
 
 pub add-below : (a b : ℕ) → addW a b < 2 ^ 32
 unfolding addW
@@ -21,6 +24,21 @@ subW-exact h l = omega arith
 pub addW-constant : (a i : ℕ) → addW a (i % 2 ^ 32) ≡ addW a i
 unfolding addW
 addW-constant a i = omega arith
+
+-- ---- masks and shifts
+
+pub masked-at-most : (a b : ℕ) → maskW a b ≤ b
+unfolding maskW
+masked-at-most a b = and-le-r a b
+
+pub shifted-at-most : (count a : ℕ) → shiftW count a ≤ a
+unfolding shiftW
+shifted-at-most count a = div-le-self a (2 ^ count)
+
+pub shifted-monotone : (count a b : ℕ) → a ≤ b → shiftW count a ≤ shiftW count b
+unfolding shiftW
+shifted-monotone count a b h =
+    le-div-iff-mul-le (pow-pos count) .1 (omega (arith, mul-div-le a (2 ^ count), mul-comm (a / 2 ^ count) (2 ^ count)))
 
 -- ---- congruence
 

@@ -5,7 +5,7 @@ use mathlib.Core.Option.{Option, none, some}
 use mathlib.Core.List.{List, [], _∷_, _++_, map}
 use lib.ListN.{length, getD, set}
 use lib.Dec.{leb}
-use Rattle.model.specs.Term.{Term, constant, variable, sum, difference, size, substitute}
+use Rattle.model.specs.Term.{Term, constant, variable, sum, difference, mask, shift, size, substitute}
 use Rattle.model.specs.Atom.{Atom, equal, unequal, less, atMost, substituteAtom}
 use Rattle.model.specs.Policy.{Policy}
 use Rattle.model.specs.Annotation.{Annotation, annotationAt}
@@ -13,7 +13,7 @@ use Rattle.model.specs.Routine.{Routine}
 use Rattle.model.specs.declared.Refusal.{Refusal}
 use Rattle.model.specs.declared.Refusal.the-variants.{Unannotated, PastLast, LargeTerm}
 use Rattle.model.specs.declared.Instruction.{Instruction}
-use Rattle.model.specs.declared.Instruction.the-variants.{Set, Add, AddImmediate, Subtract, Load, Store, Jump, JumpLess, JumpEqual, Return}
+use Rattle.model.specs.declared.Instruction.the-variants.{Set, Add, AddImmediate, Subtract, Load, Store, Jump, JumpLess, JumpEqual, Return, Mask, Shift}
 
 -- what a goal or a premise claims
 pub data Claim : Type 0 where
@@ -154,6 +154,8 @@ module _ (policy : Policy) (routine : Routine) where
     move s (JumpLess a b i) = branch s i (less (termOf s a) (termOf s b)) (atMost (termOf s b) (termOf s a))
     move s (JumpEqual a b i) = branch s i (equal (termOf s a) (termOf s b)) (unequal (termOf s a) (termOf s b))
     move s Return = ends (returning s credit (policy .postcondition))
+    move s (Mask d a i) = assign s d (mask (termOf s a) (constant i))
+    move s (Shift d a i) = assign s d (shift i (termOf s a))
 
     -- a path that has gone on arrives at the annotation at its counter, and ends, or walks on
     unfoldable pub landing : (Path → Trace) → Path → Option Annotation → Trace

@@ -5,7 +5,8 @@ use mathlib.Core.List.{List, [], _∷_}
 use lib.ListN.{getElem?}
 use lib.Dec.{eqb}
 use Rattle.model.specs.Result.{Fit, misfit, stop, value, _>>=_, check, found}
-use Rattle.model.specs.Term.{Term, constant, variable, sum, difference, closed, eqTerm}
+use Rattle.model.specs.Word.{shiftW}
+use Rattle.model.specs.Term.{Term, constant, variable, sum, difference, mask, shift, closed, rootOf, eqTerm}
 use Rattle.model.specs.Atom.{Atom, equal, unequal, less, atMost, holds, tagOf, eqAtom}
 use Rattle.model.specs.Policy.{Policy, mayRead, mayWrite}
 use Rattle.model.specs.declared.Region.{Region}
@@ -41,6 +42,9 @@ pub data Rule : Type 0 where
   in-readable-region : (j : ℕ) → Rule
   in-writable-region : (j : ℕ) → Rule
   contradiction : (m : Term) → Rule
+  mask-at-most : Rule
+  shift-at-most : Rule
+  shift-bounded : Rule
 
 -- what stands after a rule byte
 pub data Format : Type 0 where
@@ -76,6 +80,9 @@ rules =
     ∷ with-region in-readable-region
     ∷ with-region in-writable-region
     ∷ with-term contradiction
+    ∷ plain mask-at-most
+    ∷ plain shift-at-most
+    ∷ plain shift-bounded
     ∷ []
 
 -- ---- the parts of a claim and of a term
@@ -102,29 +109,45 @@ writableOf (atom a) = stop misfit
 writableOf (readable t) = stop misfit
 writableOf (writable t) = value t
 
--- the two operands of a sum, of a difference
+-- the two operands of a term of the form with a tag: of a sum, of a difference, of a mask
+unfoldable pub pairOf : (tag : ℕ) → Term → Fit (Term × Term)
+pairOf tag t = do
+  _ ← check (eqb (rootOf t .tag) tag) misfit
+  value (rootOf t .first, rootOf t .second)
+
 unfoldable pub sumOf : Term → Fit (Term × Term)
-sumOf (constant c) = stop misfit
-sumOf (variable v) = stop misfit
-sumOf (sum s t) = value (s, t)
-sumOf (difference s t) = stop misfit
+sumOf t = pairOf 2 t
 
 unfoldable pub differenceOf : Term → Fit (Term × Term)
-differenceOf (constant c) = stop misfit
-differenceOf (variable v) = stop misfit
-differenceOf (sum s t) = stop misfit
-differenceOf (difference s t) = value (s, t)
+differenceOf t = pairOf 3 t
 
--- the four operands of two sums, or of two differences
-unfoldable pub operandsOf : Term → Term → Fit (Term × Term × Term × Term)
-operandsOf (constant c) u = stop misfit
-operandsOf (variable v) u = stop misfit
-operandsOf (sum s t) u = do
-  (p, q) ← sumOf u
-  value (s, t, p, q)
-operandsOf (difference s t) u = do
-  (p, q) ← differenceOf u
-  value (s, t, p, q)
+unfoldable pub maskOf : Term → Fit (Term × Term)
+maskOf t = pairOf 4 t
+
+-- the count and the operand of a shift
+unfoldable pub shiftOf : Term → Fit (ℕ × Term)
+shiftOf t = do
+  _ ← check (eqb (rootOf t .tag) 5) misfit
+  value (rootOf t .number, rootOf t .first)
+
+-- a = c, b = d
+unfoldable pub equalPairs : (a b : Term) → Fit (Term × Term) → Fit (List Atom)
+equalPairs a b operands = do
+  (c, d) ← operands
+  value (equal a c ∷ equal b d ∷ [])
+
+-- what makes two terms of one operation equal: "a+b = c+d, or a-b = c-d, from a = c, b = d"; "rule 11 covers masks (two premises) and shifts
+-- by one count (one premise)"
+unfoldable pub congruent : Term → Term → Fit (List Atom)
+congruent (constant c) u = stop misfit
+congruent (variable v) u = stop misfit
+congruent (sum a b) u = equalPairs a b (sumOf u)
+congruent (difference a b) u = equalPairs a b (differenceOf u)
+congruent (mask a b) u = equalPairs a b (maskOf u)
+congruent (shift count a) u = do
+  (other, c) ← shiftOf u
+  _ ← check (eqb count other) misfit
+  value (equal a c ∷ [])
 
 -- ---- the rules
 
@@ -179,8 +202,7 @@ module _ (policy : Policy) (g : Goal) where
     value (equal a b ∷ [])
   premises congruence c = do
     (l, r) ← sidesOf Equal c
-    (a, b, p, q) ← operandsOf l r
-    value (equal a p ∷ equal b q ∷ [])
+    congruent l r
   premises linear c = do
     (a, b) ← sidesOf Equal c
     _ ← check (sameForm a b) misfit
@@ -228,3 +250,19 @@ module _ (policy : Policy) (g : Goal) where
     t ← writableOf c
     regionPremises policy mayWrite j t
   premises (contradiction m) c = value (less m m ∷ [])
+  -- "25, a masked with b ≤ b; 26, a shifted ≤ a; 27, a shifted by s ≤ c, one constant whose value is 4294967295 shifted right by s"
+  premises mask-at-most c = do
+    (l, r) ← sidesOf AtMost c
+    (a, b) ← maskOf l
+    _ ← check (eqTerm b r) misfit
+    value []
+  premises shift-at-most c = do
+    (l, r) ← sidesOf AtMost c
+    (count, a) ← shiftOf l
+    _ ← check (eqTerm a r) misfit
+    value []
+  premises shift-bounded c = do
+    (l, r) ← sidesOf AtMost c
+    (count, a) ← shiftOf l
+    _ ← check (eqTerm r (constant (shiftW count 4294967295))) misfit
+    value []

@@ -30,6 +30,10 @@ pub enum Instruction {
     // jump to i if a = b
     JumpEqual { a: u8, b: u8, i: u32 },
     Return,
+    // d := a masked with i, bit by bit
+    Mask { d: u8, a: u8, i: u32 },
+    // d := a shifted right by i, which is at most 31
+    Shift { d: u8, a: u8, i: u32 },
 }
 
 // A region of memory; its rights are 1 read, 2 write, 3 both.

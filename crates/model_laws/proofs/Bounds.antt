@@ -5,18 +5,18 @@ use native.Mathlib.Omega.{arith}
 use lib.Dec.{ltb, leb}
 use lib.ListN.{length}
 use borrow.Author.Tests.{ltb-true, leb-true}
-use Rattle.model.specs.Result.{value, _>>=_}
+use Rattle.model.specs.Result.{Fit, value, _>>=_}
 use Rattle.model.specs.Field.{missing, fault, byteAt, halfAt, wordAt}
-use Rattle.model.specs.Expression.{mostNodes, Form, four-byte-constant, two-byte-variable, two-expressions, forms, Nodes, nodeOf, nodesAt, expressionAt}
+use Rattle.model.specs.Expression.{mostNodes, Form, four-byte-constant, two-byte-variable, two-expressions, count-and-expression, forms, Nodes, nodeOf, nodesAt, expressionAt}
 use Rattle.model.specs.Derivation.{proofField, ruleAt}
 use Rattle.model.specs.declared.Refusal.{Refusal}
 use Rattle.model.specs.declared.Refusal.the-variants.{UnfitRule}
-use Rattle.model.specs.Term.{Term, constant, variable, sum, difference}
+use Rattle.model.specs.Term.{Term, constant, variable, sum, difference, mask, shift, rootOf}
 use Rattle.model.specs.Linear.{variableBound}
 use Rattle.model.specs.Policy.{Policy, mayRead, mayWrite}
 use Rattle.model.specs.Goals.{Goal, Claim as Claimed, atom, readable, writable}
-use Rattle.model.specs.Rule.{Rule, Format, plain, with-index, with-term, with-region, rules, atomOf, sidesOf, readableOf, writableOf, sumOf, differenceOf, operandsOf, regionPremises, premises}
-use Rattle.model.specs.Rule.{assumption, equal-reflexive, at-most-reflexive, evaluation, equal-symmetric, equal-transitive, at-most-transitive, less-at-most, at-most-less, at-most-of-less, at-most-of-equal, congruence, linear, zero-at-most, sum-monotone, difference-monotone, successor-at-most, below-successor, sum-no-overflow, less-of-at-most, unequal-of-less, unequal-symmetric, in-readable-region, in-writable-region, contradiction}
+use Rattle.model.specs.Rule.{Rule, Format, plain, with-index, with-term, with-region, rules, atomOf, sidesOf, readableOf, writableOf, pairOf, sumOf, differenceOf, maskOf, shiftOf, equalPairs, congruent, regionPremises, premises}
+use Rattle.model.specs.Rule.{assumption, equal-reflexive, at-most-reflexive, evaluation, equal-symmetric, equal-transitive, at-most-transitive, less-at-most, at-most-less, at-most-of-less, at-most-of-equal, congruence, linear, zero-at-most, sum-monotone, difference-monotone, successor-at-most, below-successor, sum-no-overflow, less-of-at-most, unequal-of-less, unequal-symmetric, in-readable-region, in-writable-region, contradiction, mask-at-most, shift-at-most, shift-bounded}
 use Rattle.model.specs.declared.Comparison.{Comparison}
 use Rattle.model.specs.declared.Region.{Region}
 use mathlib.Core.Bool.{Bool}
@@ -58,14 +58,29 @@ module _ (n : ℕ) where
   RuleBounded (in-readable-region j) = Unit {0}
   RuleBounded (in-writable-region j) = Unit {0}
   RuleBounded (contradiction m) = Bounded m
+  RuleBounded mask-at-most = Unit {0}
+  RuleBounded shift-at-most = Unit {0}
+  RuleBounded shift-bounded = Unit {0}
 
-  sum-bound : (s t : Term) → Bounded s → Bounded t → Bounded (sum s t)
+  -- an operation on two terms has no variables but theirs
+  abbrev Bounding : (Term → Term → Term) → Type 0
+  Bounding operation = (s t : Term) → Bounded s → Bounded t → Bounded (operation s t)
+
+  sum-bound : Bounding sum
   unfolding variableBound
   sum-bound s t h k = omega arith
 
-  difference-bound : (s t : Term) → Bounded s → Bounded t → Bounded (difference s t)
+  difference-bound : Bounding difference
   unfolding variableBound
   difference-bound s t h k = omega arith
+
+  mask-bound : Bounding mask
+  unfolding variableBound
+  mask-bound s t h k = omega arith
+
+  shift-bound : (count : ℕ) (s : Term) → Bounded s → Bounded (shift count s)
+  unfolding variableBound
+  shift-bound count s h = h
 
   constant-bound : (c : ℕ) → Bounded (constant c)
   unfolding variableBound
@@ -82,26 +97,49 @@ module _ (n : ℕ) where
   unfolding sidesOf
   sides-bounded kind c h = gives-then (atom-bounded c h) λ a k. gives-next λ _ _. gives k
 
+  -- the operands of a term
+  root-bounded : (t : Term) → Bounded t → Bounded (rootOf t .first) × Bounded (rootOf t .second)
+  unfolding variableBound
+  root-bounded (constant c) h = (omega arith, omega arith)
+  root-bounded (variable v) h = (omega arith, omega arith)
+  root-bounded (sum s t) h = (omega arith, omega arith)
+  root-bounded (difference s t) h = (omega arith, omega arith)
+  root-bounded (mask s t) h = (omega arith, omega arith)
+  root-bounded (shift count s) h = (h, omega arith)
+
+  pair-bounded : (tag : ℕ) (t : Term) → Bounded t → Gives PairBounded (pairOf tag t)
+  unfolding pairOf
+  pair-bounded tag t h = gives-next λ _ _. gives (root-bounded t h)
+
   sum-bounded : (t : Term) → Bounded t → Gives PairBounded (sumOf t)
-  unfolding sumOf variableBound
-  sum-bounded (constant c) h = stops
-  sum-bounded (variable v) h = stops
-  sum-bounded (sum s t) h = gives {a = (s, t)} (omega arith, omega arith)
-  sum-bounded (difference s t) h = stops
+  unfolding sumOf
+  sum-bounded = pair-bounded 2
 
   difference-bounded : (t : Term) → Bounded t → Gives PairBounded (differenceOf t)
-  unfolding differenceOf variableBound
-  difference-bounded (constant c) h = stops
-  difference-bounded (variable v) h = stops
-  difference-bounded (sum s t) h = stops
-  difference-bounded (difference s t) h = gives {a = (s, t)} (omega arith, omega arith)
+  unfolding differenceOf
+  difference-bounded = pair-bounded 3
 
-  operands-bounded : (s t : Term) → Bounded s → Bounded t → Gives (λ (r : Term × Term × Term × Term). Bounded (r .0) × Bounded (r .1) × Bounded (r .2) × Bounded (r .3)) (operandsOf s t)
-  unfolding operandsOf variableBound
-  operands-bounded (constant c) t h k = stops
-  operands-bounded (variable v) t h k = stops
-  operands-bounded (sum p q) t h k = gives-then (sum-bounded t k) λ r m. gives (omega arith, omega arith, m .0, m .1)
-  operands-bounded (difference p q) t h k = gives-then (difference-bounded t k) λ r m. gives (omega arith, omega arith, m .0, m .1)
+  mask-bounded : (t : Term) → Bounded t → Gives PairBounded (maskOf t)
+  unfolding maskOf
+  mask-bounded = pair-bounded 4
+
+  shift-operand-bounded : (t : Term) → Bounded t → Gives (λ (r : ℕ × Term). Bounded (r .1)) (shiftOf t)
+  unfolding shiftOf
+  shift-operand-bounded t h = gives-next λ _ _. gives (root-bounded t h .0)
+
+  -- the premises of two terms of one operation, by the operands of the first
+  equal-pairs-bounded : (a b : Term) {operands : Fit (Term × Term)} → PairBounded (a, b) → Gives PairBounded operands → Gives (Every (AtomBounded n)) (equalPairs a b operands)
+  unfolding equalPairs
+  equal-pairs-bounded a b h each = gives-then each λ r k. gives ((h .0, k .0) & (h .1, k .1) & empty)
+
+  congruent-bounded : (s t : Term) → Bounded s → Bounded t → Gives (Every (AtomBounded n)) (congruent s t)
+  unfolding congruent
+  congruent-bounded (constant c) t h k = stops
+  congruent-bounded (variable v) t h k = stops
+  congruent-bounded (sum a b) t h k = equal-pairs-bounded a b (root-bounded (sum a b) h) (sum-bounded t k)
+  congruent-bounded (difference a b) t h k = equal-pairs-bounded a b (root-bounded (difference a b) h) (difference-bounded t k)
+  congruent-bounded (mask a b) t h k = equal-pairs-bounded a b (root-bounded (mask a b) h) (mask-bounded t k)
+  congruent-bounded (shift count a) t h k = gives-then (shift-operand-bounded t k) λ r m. gives-next λ _ _. gives ((root-bounded (shift count a) h .0, m) & empty)
 
   -- ---- the premises
   region-bounded : (policy : Policy) (right : Region → Bool) (j : ℕ) (t : Term) → Bounded t → Gives (Every (AtomBounded n)) (regionPremises policy right j t)
@@ -128,8 +166,7 @@ module _ (n : ℕ) where
     premises-bounded (at-most-less m) c r h = gives-then (sides-bounded _ c h) λ s k. gives ((k .0, r) & (r, k .1) & empty)
     premises-bounded at-most-of-less c r h = gives-then (sides-bounded _ c h) λ s k. gives (k & empty)
     premises-bounded at-most-of-equal c r h = gives-then (sides-bounded _ c h) λ s k. gives (k & empty)
-    premises-bounded congruence c r h =
-        gives-then (sides-bounded _ c h) λ s k. gives-then (operands-bounded (s .0) (s .1) (k .0) (k .1)) λ t m. gives ((m .0, m .2) & (m .1, m .3) & empty)
+    premises-bounded congruence c r h = gives-then (sides-bounded _ c h) λ s k. congruent-bounded (s .0) (s .1) (k .0) (k .1)
     premises-bounded linear c r h = gives-next λ _ _. gives-next λ _ _. gives empty
     premises-bounded zero-at-most c r h = gives-next λ _ _. gives-next λ _ _. gives empty
     premises-bounded sum-monotone c r h =
@@ -153,6 +190,9 @@ module _ (n : ℕ) where
     premises-bounded (in-readable-region j) c r h = gives-then (access-bounded c h .0) λ t k. region-bounded policy mayRead j t k
     premises-bounded (in-writable-region j) c r h = gives-then (access-bounded c h .1) λ t k. region-bounded policy mayWrite j t k
     premises-bounded (contradiction m) c r h = gives ((r, r) & empty)
+    premises-bounded mask-at-most c r h = gives-next λ _ _. gives-next λ _ _. gives-next λ _ _. gives empty
+    premises-bounded shift-at-most c r h = gives-next λ _ _. gives-next λ _ _. gives-next λ _ _. gives empty
+    premises-bounded shift-bounded c r h = gives-next λ _ _. gives-next λ _ _. gives-next λ _ _. gives empty
 
 -- ---- fields and expressions
 module _ (bytes : List ℕ) (end : ℕ) where
@@ -176,10 +216,11 @@ module _ (bytes : List ℕ) (end : ℕ) where
     abbrev FormBounded : Form → Type 0
     FormBounded four-byte-constant = Unit {0}
     FormBounded two-byte-variable = Unit {0}
-    FormBounded (two-expressions operation) = (s t : Term) → variableBound s ≤ limit → variableBound t ≤ limit → variableBound (operation s t) ≤ limit
+    FormBounded (two-expressions operation) = Bounding limit operation
+    FormBounded (count-and-expression operation) = (count : ℕ) (s : Term) → variableBound s ≤ limit → variableBound (operation count s) ≤ limit
 
     forms-bounded : Every FormBounded forms
-    forms-bounded = tt & tt & sum-bound limit & difference-bound limit & empty
+    forms-bounded = tt & tt & sum-bound limit & difference-bound limit & mask-bound limit & shift-bound limit & empty
 
     abbrev NodesRead : (p : ℕ) → Nodes → Type 0
     NodesRead p = Gives (λ (r : Term × ℕ × ℕ). Read p (r .0) (r .1))
@@ -193,6 +234,10 @@ module _ (bytes : List ℕ) (end : ℕ) where
     node-read operand each (two-expressions operation) w left p =
         gives-then (each (left - 1) (p + 1)) λ s u.
         gives-then (each (s .2) (s .1)) λ t v. gives {a = (operation (s .0) (t .0), t .1, t .2)} (w (s .0) (t .0) (u .0) (v .0), omega (arith, u .1, v .1), v .2)
+    node-read operand each (count-and-expression operation) w left p =
+        gives-next λ count _.
+        gives-next λ _ _.
+        gives-then (each (left - 1) (p + 2)) λ s u. gives {a = (operation count (s .0), s .1, s .2)} (w count (s .0) (u .0), omega (arith, u .1), u .2)
 
     nodes-read : (depth left p : ℕ) → NodesRead p (nodesAt bytes end limit depth left p)
     unfolding nodesAt
@@ -217,7 +262,7 @@ rules-bounded : (n : ℕ) → Every (FormatBounded n) rules
 rules-bounded n =
     let index : (i : ℕ) → Unit {0} = λ i. tt in
     let term : (m : Term) → variableBound m ≤ n → variableBound m ≤ n = λ m h. h in
-    index & tt & tt & tt & tt & term & term & term & term & tt & tt & tt & tt & tt & tt & tt & tt & tt & tt & tt & tt & tt & index & index & term & empty
+    index & tt & tt & tt & tt & term & term & term & term & tt & tt & tt & tt & tt & tt & tt & tt & tt & tt & tt & tt & tt & index & index & term & tt & tt & tt & empty
 
 pub rule-read : (bytes : List ℕ) (variables p : ℕ) → Gives (λ (r : Rule × ℕ). RuleBounded variables (r .0) × (p < r .1) × (r .1 ≤ length bytes)) (ruleAt bytes variables p)
 unfolding ruleAt

@@ -2,29 +2,27 @@
 use mathlib.Core.Path.{_≡_, refl, sym, ap, ap₂, subst, _∙_}
 use mathlib.Core.Bool.{Bool, true, false}
 use mathlib.Core.List.{List, []}
-use Prim.Native.Nat.{ℕ, suc, _+_, _<_, _≤_}
+use Prim.Native.Nat.{ℕ, zero, suc, _+_, _<_, _≤_}
 use native.Mathlib.Numerals.{add-one}
 use native.Mathlib.Omega.{arith}
 use lib.Dec.{leb}
 use lib.ListN.{length, getD}
-use Rattle.model.specs.Term.{Term, constant, sum, size}
+use Rattle.model.specs.Term.{Term, constant, shift, size}
 use Rattle.model.specs.Linear.{variableBound}
 use Rattle.model.specs.Goals.{Path as ModelPath, termOf, onward, pathTo, assigning, goes, smallEnough, assign, mostTermNodes}
 use Rattle.model.specs.declared.Refusal.the-variants.{LargeTerm}
-use Rattle.model.specs.Expression.{registerCount}
+use Rattle.model.specs.Expression.{registerCount, mostCount}
 use Rattle.model.specs.Package.{mostInstructions}
 use Rattle.workspace.specs.Layout.{tableBase}
-use Rattle.terms.specs.Table.{place, termAt, Formed, Space, Put}
+use Rattle.terms.specs.Table.{operationOf, place, termAt, Formed, Space, Put}
 use Rattle.workspace.proofs.Frames.{same-trans, same-within}
 use Rattle.terms.proofs.Table.{term-same, formed-less}
 use Rattle.paths.specs.declared.Path.{Path}
 use Rattle.goals.specs.declared.Progress.{Progress}
-use Rattle.moves.specs.declared.assignments.Operation.{Operation}
-use Rattle.moves.specs.declared.assignments.Operation.the-variants.{Add, Subtract}
 use Rattle.moves.specs.declared.Moved.{Moved}
 use Rattle.moves.specs.declared.MovedAnswer.the-variants.{On, Refused}
 use Rattle.paths.specs.Walking.{pathOf, raisedTo, NodeIn, PathIn, steppedTo, writtenTo, Kept}
-use Rattle.moves.specs.Moves.{RoomFor, Built, Advanced, MoveJudged, combined, assignedAs, Assigns}
+use Rattle.moves.specs.Moves.{RoomFor, Built, Advanced, MoveJudged, assignedAs, Assigns}
 use Rattle.goals.proofs.Judging.{judges-none}
 use Rattle.moves.proofs.Moving.{move-on, move-refused}
 use Rattle.paths.proofs.Kept.{kept-same, path-held, path-equal, register-term}
@@ -32,10 +30,17 @@ use Rattle.paths.proofs.Walking.{path-raised}
 use Rattle.moves.proofs.PathLaws.{path-written, written-path, path-stepped}
 
 -- ---- nodes above the top
-combined-bound : (o : Operation) (s t : Term) (n : ℕ) → variableBound s ≤ n → variableBound t ≤ n → variableBound (combined o s t) ≤ n
+operation-bound : (tag : ℕ) (s t : Term) (n : ℕ) → variableBound s ≤ n → variableBound t ≤ n → variableBound (operationOf tag s t) ≤ n
 unfolding variableBound
-combined-bound Add s t n h k = omega arith
-combined-bound Subtract s t n h k = omega arith
+operation-bound zero s t n h k = omega arith
+operation-bound (suc zero) s t n h k = omega arith
+operation-bound (suc (suc zero)) s t n h k = omega arith
+operation-bound (suc (suc (suc zero))) s t n h k = omega arith
+operation-bound (suc (suc (suc (suc tag)))) s t n h k = omega arith
+
+shift-bound : (count : ℕ) (s : Term) (n : ℕ) → variableBound s ≤ n → variableBound (shift count s) ≤ n
+unfolding variableBound
+shift-bound count s n h = h
 
 constant-bound : (c n : ℕ) → variableBound (constant c) ≤ n
 unfolding variableBound
@@ -59,9 +64,13 @@ module _ {ws us : List ℕ} {path : Path} (w : PathIn ws path) (long : length us
   pub constant-built : {c : ℕ} → Put ws us (path .top) (constant c) → Built ws us path 1 (path .top) (constant c)
   constant-built {c} u = put-built (constant-bound c (path .variables)) u
 
-  module _ {a b x y : ℕ} (ha : a < registerCount) (hb : b < registerCount) (ex : x ≡ getD (path .registers) a 0) (ey : y ≡ getD (path .registers) b 0) where
-    pub combined-built : (o : Operation) → Put ws us (path .top) (combined o (termAt ws x) (termAt ws y)) → Built ws us path 1 (path .top) (combined o (termOf (pathOf ws path) a) (termOf (pathOf ws path) b))
-    combined-built o u = rw (← named-term w ha ex, ← named-term w hb ey) (put-built (combined-bound o _ _ (path .variables) (rw ex (w .held a ha .bound)) (rw ey (w .held b hb .bound))) u)
+  module _ {a x : ℕ} (ha : a < registerCount) (ex : x ≡ getD (path .registers) a 0) where
+    pub shift-built : {count : ℕ} → Put ws us (path .top) (shift count (termAt ws x)) → Built ws us path 1 (path .top) (shift count (termOf (pathOf ws path) a))
+    shift-built {count} u = rw (← named-term w ha ex) (put-built (shift-bound count _ (path .variables) (rw ex (w .held a ha .bound))) u)
+
+    module _ {b y : ℕ} (hb : b < registerCount) (ey : y ≡ getD (path .registers) b 0) where
+      pub pair-built : (tag : ℕ) → Put ws us (path .top) (operationOf tag (termAt ws x) (termAt ws y)) → Built ws us path 1 (path .top) (operationOf tag (termOf (pathOf ws path) a) (termOf (pathOf ws path) b))
+      pair-built tag u = rw (← named-term w ha ex, ← named-term w hb ey) (put-built (operation-bound tag _ _ (path .variables) (rw ex (w .held a ha .bound)) (rw ey (w .held b hb .bound))) u)
 
 -- the room for one node
 pub first-room : {ws : List ℕ} {path : Path} → RoomFor ws path 1 → Formed ws (path .top) × Space ws (path .top) 1
@@ -72,33 +81,38 @@ module _ {ws : List ℕ} {path : Path} {a b x y : ℕ} (ha : a < registerCount) 
   pub pair-below : PathIn ws path → (x < path .top) × (y < path .top)
   pair-below w = (rw ex (w .held a ha .below), rw ey (w .held b hb .below))
 
-  pub pair-room : RoomFor ws path 1 → Formed ws (path .top) × (Space ws (path .top) 1 × ((x < path .top) × (y < path .top)))
-  pair-room g = (first-room g .0, (first-room g .1, pair-below (g .path-in)))
+  pub pair-room : {tag : ℕ} → RoomFor ws path 1 → (1 < tag) × (tag < 5) → Formed ws (path .top) × (Space ws (path .top) 1 × (((x < path .top) × (y < path .top)) × ((1 < tag) × (tag < 5))))
+  pair-room g k = (first-room g .0, (first-room g .1, (pair-below (g .path-in), k)))
+
+-- the node of a register, and the room for its shift
+pub shift-room : {ws : List ℕ} {path : Path} {a x i : ℕ} → RoomFor ws path 1 → a < registerCount → x ≡ getD (path .registers) a 0 → i ≤ mostCount
+    → Formed ws (path .top) × (Space ws (path .top) 1 × ((i ≤ mostCount) × (x < path .top)))
+shift-room {a = a} g h e k = (first-room g .0, (first-room g .1, (k, rw e (g .path-in .held a h .below))))
 
 -- the room for the second of two
-pub second-room : {ws us : List ℕ} {path : Path} {a x : ℕ} {t : Term} → RoomFor ws path 1 → a < registerCount → x ≡ getD (path .registers) a 0 → length us ≡ length ws → Put ws us (path .top) t
-    → Formed us (path .top + 1) × (Space us (path .top + 1) 1 × ((x < path .top + 1) × (path .top < path .top + 1)))
-second-room {path = path} {a} g h e long u =
+pub second-room : {ws us : List ℕ} {path : Path} {a x tag : ℕ} {t : Term} → RoomFor ws path 1 → a < registerCount → x ≡ getD (path .registers) a 0 → (1 < tag) × (tag < 5) → length us ≡ length ws → Put ws us (path .top) t
+    → Formed us (path .top + 1) × (Space us (path .top + 1) 1 × (((x < path .top + 1) × (path .top < path .top + 1)) × ((1 < tag) × (tag < 5))))
+second-room {path = path} {a} g h e k long u =
     let inside : getD (path .registers) a 0 < path .top = g .path-in .held a h .below in
-    (rw (add-one (path .top)) (u .formed), (record { words = omega (arith, g .words); fits = omega (arith, g .nodes) }, (omega arith, omega arith)))
+    (rw (add-one (path .top)) (u .formed), (record { words = omega (arith, g .words); fits = omega (arith, g .nodes) }, ((omega arith, omega arith), k)))
 
--- a constant, and a register's sum with it
+-- a constant, and an operation on a register's term and it
 module _ {ws us vs : List ℕ} {path : Path} (w : PathIn ws path) (long : length us ≡ length ws) (longer : length vs ≡ length us)
-    {a x i : ℕ} (ha : a < registerCount) (ex : x ≡ getD (path .registers) a 0)
-    (u : Put ws us (path .top) (constant i)) (v : Put us vs (path .top + 1) (sum (termAt us x) (termAt us (path .top)))) where
-  pub sum-with-built : Built ws vs path 2 (path .top + 1) (sum (termOf (pathOf ws path) a) (constant i))
-  sum-with-built =
+    {a x i : ℕ} (tag : ℕ) (ha : a < registerCount) (ex : x ≡ getD (path .registers) a 0)
+    (u : Put ws us (path .top) (constant i)) (v : Put us vs (path .top + 1) (operationOf tag (termAt us x) (termAt us (path .top)))) where
+  pub built-with : Built ws vs path 2 (path .top + 1) (operationOf tag (termOf (pathOf ws path) a) (constant i))
+  built-with =
       let one : Built ws us path 1 (path .top) (constant i) = constant-built w long u in
       let inside : x < path .top = rw ex (w .held a ha .below) in
       let left : termAt us x ≡ termOf (pathOf ws path) a = term-same (path .top) (same-within tableBase (place (path .top)) (omega arith) (omega arith) (u .kept)) x inside ∙ named-term w ha ex in
       let bound : variableBound (termAt us x) ≤ path .variables = rw ex (one .path-in .held a ha .bound) in
       let other : variableBound (termAt us (path .top)) ≤ path .variables = one .node-in .bound in
-      let two : Built us vs (raisedTo path (path .top + 1)) 1 (path .top + 1) (sum (termAt us x) (termAt us (path .top))) = put-built (one .path-in) longer (combined-bound Add _ _ (path .variables) bound other) v in
+      let two : Built us vs (raisedTo path (path .top + 1)) 1 (path .top + 1) (operationOf tag (termAt us x) (termAt us (path .top))) = put-built (one .path-in) longer (operation-bound tag _ _ (path .variables) bound other) v in
       let higher : path .top + 1 + 1 ≡ path .top + 2 = omega arith in
       record {
         path-in = subst (λ n. PathIn vs (raisedTo path n)) higher (two .path-in);
         node-in = subst (λ n. NodeIn vs (raisedTo path n) (path .top + 1)) higher (two .node-in);
-        means = two .means ∙ ap₂ sum left (u .is);
+        means = two .means ∙ ap₂ (operationOf tag) left (u .is);
         same = same-trans (u .kept) (same-within 0 (place (path .top)) (omega arith) (omega arith) (v .kept));
       }
 

@@ -4,7 +4,7 @@ use mathlib.Core.Bool.{Bool, true, false}
 use mathlib.Core.List.{List}
 use Prim.Native.Nat.{ℕ, _+_, _*_, _≤_}
 use lib.ListN.{length}
-use Rattle.model.specs.Term.{Term, sum, difference}
+use Rattle.model.specs.Term.{Term}
 use Rattle.model.specs.Policy.{Policy}
 use Rattle.model.specs.Package.{mostInstructions}
 use Rattle.model.specs.Annotation.{annotationAt}
@@ -21,8 +21,6 @@ use Rattle.paths.specs.Walking.{pathOf, raisedTo, NodeIn, PathIn, steppedTo, wr
 use Rattle.goals.specs.Room.{goalRoom}
 use Rattle.paths.specs.declared.Path.{Path}
 use Rattle.goals.specs.declared.Progress.{Progress}
-use Rattle.moves.specs.declared.assignments.Operation.{Operation}
-use Rattle.moves.specs.declared.assignments.Operation.the-variants.{Add, Subtract}
 use Rattle.moves.specs.declared.Moved.{Moved}
 use Rattle.moves.specs.declared.MovedAnswer.{MovedAnswer}
 use Rattle.moves.specs.declared.MovedAnswer.the-variants.{On, Ended, Refused}
@@ -89,11 +87,6 @@ pub record Moves (ws us bytes : List ℕ) (Where : Policy → Routine → Type 0
 unfoldable pub assignedAs : Bool → Path → (d node : ℕ) → Progress → Moved
 assignedAs true path d node p = record { path = steppedTo (writtenTo path d node) (path .counter + 1); answer = On p }
 assignedAs false path d node p = record { path = path; answer = Refused (LargeTerm (path .counter)) (p .goals) }
-
--- the term of an operation
-abbrev pub combined : Operation → Term → Term → Term
-combined Add s t = sum s t
-combined Subtract s t = difference s t
 
 -- an assignment goes by neither policy, routine nor credit
 abbrev pub Anywhere : Policy → Routine → Type 0

@@ -51,7 +51,7 @@ pub fn load(
     ensures { λ r. ⌜ Accesses (now (ws .entry)) (now (ws .exit)) (now (bytes .entry)) (regionsOf (now (regions .entry)) count) (goes (goalOf (pathOf (now (ws .entry)) path) (readable (addressTerm (pathOf (now (ws .entry)) path) a i)) ∷ []) (onward (loading (pathOf (now (ws .entry)) path) d))) path progress r ⌝ }
 {
     let top = path.top;
-    assignments::put_sum_with(ws, path, a, i);
+    assignments::put_with(ws, path, assignments::SUM, a, i);
     let raised = paths::raised(path, top + 2);
     let judged = goals::goal(
         bytes,
@@ -89,7 +89,7 @@ pub fn store(
     ensures { λ r. ⌜ Accesses (now (ws .entry)) (now (ws .exit)) (now (bytes .entry)) (regionsOf (now (regions .entry)) count) (goes (goalOf (pathOf (now (ws .entry)) path) (writable (addressTerm (pathOf (now (ws .entry)) path) a i)) ∷ []) (onward (pathOf (now (ws .entry)) path))) path progress r ⌝ }
 {
     let top = path.top;
-    assignments::put_sum_with(ws, path, a, i);
+    assignments::put_with(ws, path, assignments::SUM, a, i);
     let raised = paths::raised(path, top + 2);
     let judged = goals::goal(
         bytes,

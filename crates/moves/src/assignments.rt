@@ -5,21 +5,22 @@ use goals::Progress;
 use model::Refusal;
 use paths::Path;
 ghost use mathlib.Core.Path.{_≡_};
-ghost use Prim.Native.Nat.{suc, _+_, _<_};
+ghost use Prim.Native.Nat.{suc, _+_, _≤_, _<_};
 ghost use lib.Dec.{leb};
-ghost use Rattle.model.specs.Term.{constant, sum, size};
+ghost use Rattle.model.specs.Term.{constant, shift as shiftOf, size};
 ghost use Rattle.model.specs.Goals.{termOf, mostTermNodes};
-ghost use Rattle.model.specs.Expression.{registerCount};
+ghost use Rattle.model.specs.Expression.{registerCount, mostCount};
 ghost use Rattle.model.specs.Package.{mostInstructions};
-ghost use Rattle.terms.specs.Table.{termAt, Formed};
+ghost use Rattle.terms.specs.Table.{operationOf, termAt, Formed};
 ghost use Rattle.paths.specs.Walking.{pathOf};
-ghost use Rattle.moves.specs.Moves.{RoomFor, Built, combined, assignedAs, Assigns};
+ghost use Rattle.moves.specs.Moves.{RoomFor, Built, assignedAs, Assigns};
 
-// The operations on two registers.
-pub enum Operation {
-    Add,
-    Subtract,
-}
+// The operations on two terms, by their tags.
+pub const SUM: u32 = 2;
+
+pub const DIFFERENCE: u32 = 3;
+
+pub const MASK: u32 = 4;
 
 // Register d takes the term of a node, if that is small enough, and the path goes on; else it is refused at its counter.
 fn assign(ws: &[u32], path: Path, d: u8, node: usize, progress: Progress) -> Moved
@@ -51,58 +52,65 @@ pub fn set(ws: &mut [u32], path: Path, d: u8, i: u32, progress: Progress) -> Mov
     assign(ws, paths::raised(path, top + 1), d, top, progress)
 }
 
-// Puts the sum or the difference of the terms of registers a and b above the path's top.
-fn put_combined(ws: &mut [u32], path: Path, operation: Operation, a: u8, b: u8)
-    requires { ⌜ (a < registerCount) × (b < registerCount) ⌝ }
-    requires { ⌜ RoomFor (now ws) path 1 ⌝ }
-    ensures { λ _. ⌜ Built (now (ws .entry)) (now (ws .exit)) path 1 (path .top) (combined operation (termOf (pathOf (now (ws .entry)) path) a) (termOf (pathOf (now (ws .entry)) path) b)) ⌝ }
-{
-    let top = path.top;
-    let left = paths::node(path, a);
-    let right = paths::node(path, b);
-    match operation {
-        Operation::Add => terms::put_sum(ws, top, left, right),
-        Operation::Subtract => terms::put_difference(ws, top, left, right),
-    }
-}
-
-// d := a + b, or d := a - b
+// d := a + b, or d := a - b, by the operation's tag
 pub fn combine(
     ws: &mut [u32],
     path: Path,
-    operation: Operation,
+    tag: u32,
     d: u8,
     a: u8,
     b: u8,
     progress: Progress,
 ) -> Moved
     requires { ⌜ (d < registerCount) × (a < registerCount) × (b < registerCount) ⌝ }
+    requires { ⌜ (1 < tag) × (tag < 5) ⌝ }
     requires { ⌜ RoomFor (now ws) path 1 ⌝ }
-    ensures { λ r. ⌜ Assigns (now (ws .entry)) (now (ws .exit)) path d (combined operation (termOf (pathOf (now (ws .entry)) path) a) (termOf (pathOf (now (ws .entry)) path) b)) progress r ⌝ }
+    ensures { λ r. ⌜ Assigns (now (ws .entry)) (now (ws .exit)) path d (operationOf tag (termOf (pathOf (now (ws .entry)) path) a) (termOf (pathOf (now (ws .entry)) path) b)) progress r ⌝ }
 {
     let top = path.top;
-    put_combined(ws, path, operation, a, b);
+    terms::put_pair(ws, top, tag, paths::node(path, a), paths::node(path, b));
     assign(ws, paths::raised(path, top + 1), d, top, progress)
 }
 
-// Puts a constant i and the sum of register a's term with it above the path's top.
-pub fn put_sum_with(ws: &mut [u32], path: Path, a: u8, i: u32)
+// Puts a constant i and the operation of a tag on register a's term and it above the path's top.
+pub fn put_with(ws: &mut [u32], path: Path, tag: u32, a: u8, i: u32)
     requires { ⌜ a < registerCount ⌝ }
+    requires { ⌜ (1 < tag) × (tag < 5) ⌝ }
     requires { ⌜ RoomFor (now ws) path 1 ⌝ }
-    ensures { λ _. ⌜ Built (now (ws .entry)) (now (ws .exit)) path 2 (path .top + 1) (sum (termOf (pathOf (now (ws .entry)) path) a) (constant i)) ⌝ }
+    ensures { λ _. ⌜ Built (now (ws .entry)) (now (ws .exit)) path 2 (path .top + 1) (operationOf tag (termOf (pathOf (now (ws .entry)) path) a) (constant i)) ⌝ }
 {
     let top = path.top;
     terms::put_constant(ws, top, i);
-    terms::put_sum(ws, top + 1, paths::node(path, a), top);
+    terms::put_pair(ws, top + 1, tag, paths::node(path, a), top);
 }
 
-// d := a + i
-pub fn add_immediate(ws: &mut [u32], path: Path, d: u8, a: u8, i: u32, progress: Progress) -> Moved
+// d := a + i, or d := a masked with i, by the operation's tag
+pub fn combine_immediate(
+    ws: &mut [u32],
+    path: Path,
+    tag: u32,
+    d: u8,
+    a: u8,
+    i: u32,
+    progress: Progress,
+) -> Moved
     requires { ⌜ (d < registerCount) × (a < registerCount) ⌝ }
+    requires { ⌜ (1 < tag) × (tag < 5) ⌝ }
     requires { ⌜ RoomFor (now ws) path 1 ⌝ }
-    ensures { λ r. ⌜ Assigns (now (ws .entry)) (now (ws .exit)) path d (sum (termOf (pathOf (now (ws .entry)) path) a) (constant i)) progress r ⌝ }
+    ensures { λ r. ⌜ Assigns (now (ws .entry)) (now (ws .exit)) path d (operationOf tag (termOf (pathOf (now (ws .entry)) path) a) (constant i)) progress r ⌝ }
 {
     let top = path.top;
-    put_sum_with(ws, path, a, i);
+    put_with(ws, path, tag, a, i);
     assign(ws, paths::raised(path, top + 2), d, top + 1, progress)
+}
+
+// d := a shifted right by i
+pub fn shift(ws: &mut [u32], path: Path, d: u8, a: u8, i: u32, progress: Progress) -> Moved
+    requires { ⌜ (d < registerCount) × (a < registerCount) × (i ≤ mostCount) ⌝ }
+    requires { ⌜ RoomFor (now ws) path 1 ⌝ }
+    ensures { λ r. ⌜ Assigns (now (ws .entry)) (now (ws .exit)) path d (shiftOf i (termOf (pathOf (now (ws .entry)) path) a)) progress r ⌝ }
+{
+    let top = path.top;
+    terms::put_shift(ws, top, i, paths::node(path, a));
+    assign(ws, paths::raised(path, top + 1), d, top, progress)
 }

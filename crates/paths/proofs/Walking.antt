@@ -7,7 +7,7 @@ use native.Mathlib.Numerals.{add-one}
 use native.Mathlib.Omega.{arith}
 use native.Mathlib.Decide.{decLt}
 use lib.ListN.{length, getD}
-use Rattle.model.specs.Term.{Term, constant, variable, sum, difference, substitute}
+use Rattle.model.specs.Term.{Term, constant, variable, sum, difference, mask, shift, substitute}
 use Rattle.model.specs.Linear.{variableBound}
 use Rattle.model.specs.Expression.{registerCount}
 use Rattle.workspace.specs.Layout.{tableBase, Same}
@@ -97,6 +97,8 @@ substitute-bound terms n k (constant c) = omega arith
 substitute-bound terms n k (variable v) = k v
 substitute-bound terms n k (sum s t) = omega (arith, substitute-bound terms n k s, substitute-bound terms n k t)
 substitute-bound terms n k (difference s t) = omega (arith, substitute-bound terms n k s, substitute-bound terms n k t)
+substitute-bound terms n k (mask s t) = omega (arith, substitute-bound terms n k s, substitute-bound terms n k t)
+substitute-bound terms n k (shift count s) = substitute-bound terms n k s
 
 -- they are over the path's variables
 pub registers-bound : {ws : List ℕ} {p : Path} → PathIn ws p → (t : Term) → variableBound (substitute (map (termAt ws) (p .registers)) t) ≤ p .variables

@@ -17,7 +17,7 @@ use Rattle.model.specs.Instruction.{decode, targetOf, targetInside}
 use Rattle.model.specs.Package.{mostInstructions, immediateStart, instructionsFrom, readCode}
 use Rattle.model.specs.declared.Header.{Header}
 use Rattle.model.specs.declared.Instruction.{Instruction}
-use Rattle.model.specs.declared.Instruction.the-variants.{Set, Add, AddImmediate, Subtract, Load, Store, Jump, JumpLess, JumpEqual, Return}
+use Rattle.model.specs.declared.Instruction.the-variants.{Set, Add, AddImmediate, Subtract, Load, Store, Jump, JumpLess, JumpEqual, Return, Mask, Shift}
 use Rattle.model.proofs.Instruction.{the-type}
 use Rattle.model.specs.declared.Refusal.{Refusal}
 use Rattle.model.specs.declared.Refusal.the-variants.{BadInstruction, BadTarget}
@@ -36,7 +36,7 @@ use Rattle.routine.proofs.Decoding.{decoded, undecoded, formed}
 
 -- the instructions that the code names none of
 abbrev others : List ℕ
-others = 0 ∷ 1 ∷ 2 ∷ 3 ∷ 4 ∷ 5 ∷ 9 ∷ []
+others = 0 ∷ 1 ∷ 2 ∷ 3 ∷ 4 ∷ 5 ∷ 9 ∷ 10 ∷ 11 ∷ []
 
 pub no-target : (x : Instruction) → OneOf others (tagOf the-type x) → none ≡ targetOf x
 unfolding targetOf
@@ -50,6 +50,8 @@ no-target (Jump i) t = absurd (miss others 6 tt t)
 no-target (JumpLess a b i) t = absurd (miss others 7 tt t)
 no-target (JumpEqual a b i) t = absurd (miss others 8 tt t)
 no-target Return t = refl
+no-target (Mask d a i) t = refl
+no-target (Shift d a i) t = refl
 
 -- a jump whose target is i, and an instruction that does not jump
 module _ (n : ℕ) (x : Instruction) (r : Target) (e : targetOption r ≡ targetOf x) where

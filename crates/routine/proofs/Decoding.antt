@@ -7,14 +7,14 @@ use mathlib.Core.List.{List, [], _∷_}
 use native.Mathlib.Decide.{ℕ-discrete}
 use native.Mathlib.Omega.{arith}
 use Prim.Native.Nat.{ℕ, zero, suc, _^_, _≤_, _<_, zero-le}
-use borrow.Author.Tests.{ltb-true}
-use lib.Dec.{ltb, eqb}
+use borrow.Author.Tests.{ltb-true, leb-true}
+use lib.Dec.{ltb, leb, eqb}
 use lib.ListN.{length, getElem?}
 use Rattle.model.specs.Result.{Fit, misfit, stop, value, _>>=_, check, found}
-use Rattle.model.specs.Expression.{registerCount}
+use Rattle.model.specs.Expression.{registerCount, mostCount}
 use Rattle.model.specs.Instruction.{provided, operations, decode, targetOf, targetInside}
 use Rattle.model.specs.declared.Instruction.{Instruction}
-use Rattle.model.specs.declared.Instruction.the-variants.{Set, Add, AddImmediate, Subtract, Load, Store, Jump, JumpLess, JumpEqual, Return}
+use Rattle.model.specs.declared.Instruction.the-variants.{Set, Add, AddImmediate, Subtract, Load, Store, Jump, JumpLess, JumpEqual, Return, Mask, Shift}
 use Rattle.routine.specs.declared.instructions.Decoded.the-variants.{Good, Bad}
 use Rattle.routine.specs.Code.{decodedOf, Formed}
 
@@ -33,9 +33,9 @@ past-end [] n h = refl
 past-end (x ∷ l) zero h = absurd (omega arith)
 past-end (x ∷ l) (suc n) h = past-end l n (omega arith)
 
-pub default : (op d a b i : ℕ) → 10 ≤ op → Bad ≡ decodedOf (decode op d a b i)
+pub default : (op d a b i : ℕ) → 10 ≤ op → (op ≡ 10 → ⊥) → (op ≡ 11 → ⊥) → Bad ≡ decodedOf (decode op d a b i)
 unfolding decodedOf decode _>>=_ found
-default op d a b i h = rw (past-end operations op h)
+default op d a b i h ten eleven = rw (past-end operations op (omega arith))
 
 -- a number that is k or the next
 pub one-of-two : (k x : ℕ) → k ≤ x → x < suc (suc k) → (x ≡ k) ⊎ (x ≡ suc k)
@@ -98,6 +98,9 @@ module _ (n d a b i : ℕ) (w : i < 2 ^ 32) where
   two-registers : (q : Bool) → (ltb d registerCount && ltb a registerCount && q) ≡ true → (d < registerCount) × (a < registerCount) × (i < 2 ^ 32)
   two-registers q t = let r = three _ _ _ t in (ltb-true d registerCount (r .0), ltb-true a registerCount (r .1), w)
 
+  counted : (q : Bool) → (ltb d registerCount && ltb a registerCount && q && leb i mostCount) ≡ true → (d < registerCount) × (a < registerCount) × (i ≤ mostCount)
+  counted q t = let r = four _ _ _ _ t in (ltb-true d registerCount (r .0), ltb-true a registerCount (r .1), leb-true i mostCount (r .3))
+
   branch : (eqb d 0 && ltb a registerCount && ltb b registerCount) ≡ true → ltb i n ≡ true → (a < registerCount) × (b < registerCount) × (i < n)
   branch t z = let r = three (eqb d 0) (ltb a registerCount) (ltb b registerCount) t in (ltb-true a registerCount (r .1), ltb-true b registerCount (r .2), ltb-true i n z)
 
@@ -129,6 +132,8 @@ module _ (n d a b i : ℕ) (w : i < 2 ^ 32) where
       then row _ (JumpLess a b i) (λ t z. branch t z)
       then row _ (JumpEqual a b i) (λ t z. branch t z)
       then row _ Return (λ t z. tt)
+      then row _ (Mask d a i) (λ t z. two-registers _ t)
+      then row _ (Shift d a i) (λ t z. counted _ t)
       then done
 
   formed-in : (fs : List (ℕ → ℕ → ℕ → ℕ → Fit Instruction)) → EachFormed fs → (op : ℕ) → FormedBy (λ d a b i. found (getElem? fs op) misfit >>= λ f. f d a b i)

@@ -2,17 +2,17 @@
 use mathlib.Core.Path.{_≡_}
 use mathlib.Core.Option.{Option, none, some}
 use mathlib.Core.List.{List}
-use Prim.Native.Nat.{ℕ, _+_, _*_, _^_, _<_}
+use Prim.Native.Nat.{ℕ, _+_, _*_, _^_, _≤_, _<_}
 use lib.ListN.{length, getD, take}
 use mathlib.Core.List.{map}
 use Rattle.model.specs.Result.{Result, Fit, stop, value, check, stopAs, _>>=_}
 use Rattle.model.specs.Word.{le32}
 use Rattle.model.specs.Instruction.{decode, targetInside}
-use Rattle.model.specs.Expression.{registerCount}
+use Rattle.model.specs.Expression.{registerCount, mostCount}
 use Rattle.model.specs.Package.{mostInstructions, immediateStart, readCode}
 use Rattle.model.specs.declared.Header.{Header}
 use Rattle.model.specs.declared.Instruction.{Instruction}
-use Rattle.model.specs.declared.Instruction.the-variants.{Set, Add, AddImmediate, Subtract, Load, Store, Jump, JumpLess, JumpEqual, Return}
+use Rattle.model.specs.declared.Instruction.the-variants.{Set, Add, AddImmediate, Subtract, Load, Store, Jump, JumpLess, JumpEqual, Return, Mask, Shift}
 use Rattle.model.specs.declared.Refusal.{Refusal}
 use Rattle.model.specs.declared.Refusal.the-variants.{BadInstruction, BadTarget}
 use Rattle.routine.specs.declared.instructions.Decoded.{Decoded}
@@ -50,7 +50,7 @@ instructionAt bytes h index = do
   _ ← check (targetInside (h .instructions) instruction) (BadTarget index)
   value instruction
 
--- the registers are among the sixteen, the immediate is a word, and a jump's target is below n
+-- the registers are among the sixteen, the immediate is a word, a jump's target is below n, and a shift's count is at most 31
 abbrev pub Formed : (n : ℕ) → Instruction → Type 0
 Formed n (Set d i) = (d < registerCount) × (i < 2 ^ 32)
 Formed n (Add d a b) = (d < registerCount) × (a < registerCount) × (b < registerCount)
@@ -62,6 +62,8 @@ Formed n (Jump i) = i < n
 Formed n (JumpLess a b i) = (a < registerCount) × (b < registerCount) × (i < n)
 Formed n (JumpEqual a b i) = (a < registerCount) × (b < registerCount) × (i < n)
 Formed n Return = Unit
+Formed n (Mask d a i) = (d < registerCount) × (a < registerCount) × (i < 2 ^ 32)
+Formed n (Shift d a i) = (d < registerCount) × (a < registerCount) × (i ≤ mostCount)
 
 -- an instruction that passes is formed
 unfoldable pub FormedIfPassed : (n : ℕ) → InstructionAnswer → Type 0

@@ -1,10 +1,11 @@
 // The instructions of a package: checks 8 and 9.
+use limits::MOST_COUNT;
 use limits::MOST_INSTRUCTIONS;
 use model::Header;
 use model::Instruction;
 use model::Refusal;
 ghost use mathlib.Core.Path.{_≡_};
-ghost use Prim.Native.Nat.{_<_};
+ghost use Prim.Native.Nat.{_≤_, _<_};
 ghost use Rattle.model.specs.Instruction.{decode, targetOf, targetInside};
 ghost use Rattle.model.specs.Package.{readCode};
 ghost use Rattle.header.specs.Headers.{Fits};
@@ -17,6 +18,28 @@ const REGISTERS: u8 = limits::REGISTERS as u8;
 pub enum Decoded {
     Good(Instruction),
     Bad,
+}
+
+// The same as `decode`, for the operations from 10 on.
+fn decode_bitwise(op: u8, d: u8, a: u8, b: u8, i: u32) -> Decoded
+    requires { ⌜ 10 ≤ op ⌝ }
+    ensures { λ r. ⌜ r ≡ decodedOf (decode op d a b i) ⌝ }
+{
+    match op {
+        10 => {
+            if (d < REGISTERS) & (a < REGISTERS) & (b == 0) {
+                return Decoded::Good(Instruction::Mask { d, a, i });
+            }
+            Decoded::Bad
+        }
+        11 => {
+            if (d < REGISTERS) & (a < REGISTERS) & (b == 0) & (i <= MOST_COUNT) {
+                return Decoded::Good(Instruction::Shift { d, a, i });
+            }
+            Decoded::Bad
+        }
+        _ => Decoded::Bad,
+    }
 }
 
 // The instruction of an operation word's four bytes and an immediate.
@@ -75,7 +98,7 @@ pub fn decode(op: u8, d: u8, a: u8, b: u8, i: u32) -> Decoded
             }
             Decoded::Bad
         }
-        _ => Decoded::Bad,
+        _ => decode_bitwise(op, d, a, b, i),
     }
 }
 

@@ -75,6 +75,10 @@ pub regions : Rows Region 22 2
 unfolding downFrom
 regions = search (_&_, empty) depth 60
 
+pub plain-last : Rows Plain 25 3
+unfolding downFrom
+plain-last = search (_&_, empty) depth 60
+
 module _ {n : ℕ} where
   pub form-row : (k : ℕ) → n ≡ k → formOf (getElem? rules k) ≡ formOf (getElem? rules n)
   form-row k e = ap (λ i. formOf (getElem? rules i)) (sym e)
@@ -84,8 +88,8 @@ module _ {n : ℕ} where
       let e : from + (n - from) ≡ n = omega arith in
       subst (λ i. form ≡ formOf (getElem? rules i)) e (each-below count r (n - from) (omega arith))
 
-  pub form-unknown : 24 ≤ n → (n ≡ 24 → ⊥) → Unknown ≡ formOf (getElem? rules n)
-  form-unknown h k = ap formOf (sym (past-end rules n (omega arith)))
+  pub form-unknown : 28 ≤ n → Unknown ≡ formOf (getElem? rules n)
+  form-unknown h = ap formOf (sym (past-end rules n (omega arith)))
 
 -- ---- the row of a form
 clash : {A : Type 0} {f g : Form} → f ≡ g → (variant (declared enum) f ≡ variant (declared enum) g → ⊥) → A

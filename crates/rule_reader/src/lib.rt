@@ -46,6 +46,7 @@ fn form_of(number: usize) -> Form
         9..=21 => Form::Plain,
         22..=23 => Form::Region,
         24 => Form::Argument,
+        25..=27 => Form::Plain,
         _ => Form::Unknown,
     }
 }

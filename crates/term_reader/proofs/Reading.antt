@@ -8,29 +8,32 @@ use lib.ListN.{getD, getElem?}
 use borrow.Author.Tests.{lt-ltb, le-ltb, le-leb, lt-leb}
 use Rattle.model.specs.Word.{le16, le32}
 use Rattle.model.specs.Result.{Result, stop, value, _>>=_, check, found}
-use Rattle.model.specs.Term.{Term, constant, variable}
+use Rattle.model.specs.Term.{Term, constant, variable, shift}
 use Rattle.model.specs.Atom.{Atom}
 use Rattle.model.specs.Field.{ReadError, missing, fault, byteAt, halfAt, wordAt}
-use Rattle.model.specs.Expression.{Form, four-byte-constant, two-byte-variable, two-expressions, forms, comparisons, Nodes, nodeOf, nodesAt, expressionAt, atomAt}
+use Rattle.model.specs.Expression.{Form, four-byte-constant, two-byte-variable, two-expressions, count-and-expression, forms, mostCount, comparisons, Nodes, nodeOf, nodesAt, expressionAt, atomAt}
 use Rattle.model.specs.declared.Comparison.{Comparison}
 use Rattle.terms.specs.Table.{operationOf}
 use Rattle.fields.specs.Kind.{kindOf}
 use Rattle.term_reader.specs.Reader.{over, mapped, nodesOver, expressionOver, atomOver}
 
 -- ---- the form of a tag
-pub form-pair : (tag : ℕ) → 1 < tag → tag < 4 → getElem? forms tag ≡ some (two-expressions (operationOf tag))
+pub form-pair : (tag : ℕ) → 1 < tag → tag < 5 → getElem? forms tag ≡ some (two-expressions (operationOf tag))
 form-pair zero h k = absurd (omega arith)
 form-pair (suc zero) h k = absurd (omega arith)
 form-pair (suc (suc zero)) h k = refl
 form-pair (suc (suc (suc zero))) h k = refl
-form-pair (suc (suc (suc (suc t)))) h k = absurd (omega arith)
+form-pair (suc (suc (suc (suc zero)))) h k = refl
+form-pair (suc (suc (suc (suc (suc t))))) h k = absurd (omega arith)
 
-pub form-unknown : (tag : ℕ) → 4 ≤ tag → getElem? forms tag ≡ none
+pub form-unknown : (tag : ℕ) → 6 ≤ tag → getElem? forms tag ≡ none
 form-unknown zero h = absurd (omega arith)
 form-unknown (suc zero) h = absurd (omega arith)
 form-unknown (suc (suc zero)) h = absurd (omega arith)
 form-unknown (suc (suc (suc zero))) h = absurd (omega arith)
-form-unknown (suc (suc (suc (suc t)))) h = refl
+form-unknown (suc (suc (suc (suc zero)))) h = absurd (omega arith)
+form-unknown (suc (suc (suc (suc (suc zero))))) h = absurd (omega arith)
+form-unknown (suc (suc (suc (suc (suc (suc t)))))) h = refl
 
 module _ (bytes : List ℕ) (end limit : ℕ) where
   -- ---- a node, by the form after its tag
@@ -57,6 +60,14 @@ module _ (bytes : List ℕ) (end limit : ℕ) where
       unfolding nodeOf halfAt _>>=_ check mapped over
       variable-found l d = rw (le-leb (at + 1 + 2) end (omega arith), ← e, lt-ltb v limit l, d)
 
+    pub shift-missing : end < at + 2 → stop missing ≡ nodesOver σ (nodeOf bytes end limit operand (count-and-expression shift) left at)
+    unfolding nodeOf byteAt _>>=_ check mapped
+    shift-missing h = rw (lt-leb (at + 1 + 1) end (omega arith))
+
+    pub shift-fault : at + 2 ≤ end → mostCount < getD bytes (at + 1) 0 → stop (fault (at + 1)) ≡ nodesOver σ (nodeOf bytes end limit operand (count-and-expression shift) left at)
+    unfolding nodeOf byteAt _>>=_ check mapped
+    shift-fault h k = rw (le-leb (at + 1 + 1) end (omega arith), lt-leb (getD bytes (at + 1) 0) mostCount k)
+
   -- ---- the nodes at a position
   module _ (left at : ℕ) where
     pub nodes-missing : (depth : ℕ) → end ≤ at → stop missing ≡ nodesAt bytes end limit depth left at
@@ -79,12 +90,13 @@ module _ (bytes : List ℕ) (end limit : ℕ) where
         unfolding nodesAt byteAt _>>=_ check found
         nodes-form e = rw (le-leb (at + 1) end (omega arith), lt-ltb 0 left s, e)
 
--- ---- two expressions, the second where the first ends
+-- ---- an operation on what is read
+abbrev pub applied : (Term → Term) → Nodes → Nodes
+applied f x = x >>= (λ z. value (f (z .0), z .1, z .2))
+
+-- two expressions, the second where the first ends
 abbrev pub pairOf : (Term → Term → Term) → Nodes → ((left p : ℕ) → Nodes) → Nodes
-pairOf operation x y = do
-  (s, q, left′) ← x
-  (t, r, left″) ← y left′ q
-  value (operation s t, r, left″)
+pairOf operation x y = x >>= (λ z. applied (operation (z .0)) (y (z .2) (z .1)))
 
 -- an operation that is the same over other terms
 abbrev pub Keeps : (Term → Term → Term) → (ℕ → Term) → Type 0
@@ -95,23 +107,32 @@ unfolding over
 operation-keeps zero σ s t = refl
 operation-keeps (suc zero) σ s t = refl
 operation-keeps (suc (suc zero)) σ s t = refl
-operation-keeps (suc (suc (suc tag))) σ s t = refl
+operation-keeps (suc (suc (suc zero))) σ s t = refl
+operation-keeps (suc (suc (suc (suc tag)))) σ s t = refl
 
-module _ (σ : ℕ → Term) (operation : Term → Term → Term) (k : Keeps operation σ) where
-  second-over : (s : Term) (y : Nodes) → nodesOver σ (y >>= (λ z. value (operation s (z .0), z .1, z .2))) ≡ (nodesOver σ y >>= (λ z. value (operation (over σ s) (z .0), z .1, z .2)))
+module _ (σ : ℕ → Term) where
+  applied-over : (f g : Term → Term) → ((t : Term) → over σ (f t) ≡ g (over σ t)) → (x : Nodes) → nodesOver σ (applied f x) ≡ applied g (nodesOver σ x)
   unfolding _>>=_ mapped
-  second-over s (stop e) = refl
-  second-over s (value z) = ap (λ t. value (t, z .1, z .2)) (k s (z .0))
+  applied-over f g k (stop e) = refl
+  applied-over f g k (value z) = ap (λ t. value (t, z .1, z .2)) (k (z .0))
 
-  pub pair-over : (x : Nodes) (y : (left p : ℕ) → Nodes) → nodesOver σ (pairOf operation x y) ≡ pairOf operation (nodesOver σ x) (λ l q. nodesOver σ (y l q))
+  pub shift-over : (count : ℕ) (x : Nodes) → nodesOver σ (applied (shift count) x) ≡ applied (shift count) (nodesOver σ x)
+  unfolding over
+  shift-over count x = applied-over (shift count) (shift count) (λ t. refl) x
+
+  pub pair-over : (operation : Term → Term → Term) → Keeps operation σ → (x : Nodes) (y : (left p : ℕ) → Nodes) → nodesOver σ (pairOf operation x y) ≡ pairOf operation (nodesOver σ x) (λ l q. nodesOver σ (y l q))
   unfolding _>>=_ mapped
-  pair-over (stop e) y = refl
-  pair-over (value z) y = second-over (z .0) (y (z .2) (z .1))
+  pair-over operation k (stop e) y = refl
+  pair-over operation k (value z) y = applied-over (operation (z .0)) (operation (over σ (z .0))) (k (z .0)) (y (z .2) (z .1))
 
-pub node-pair : (bytes : List ℕ) (end limit : ℕ) (operand : (left p : ℕ) → Nodes) (operation : Term → Term → Term) (left at : ℕ)
-    → pairOf operation (operand (left - 1) (at + 1)) operand ≡ nodeOf bytes end limit operand (two-expressions operation) left at
-unfolding nodeOf
-node-pair bytes end limit operand operation left at = refl
+module _ (bytes : List ℕ) (end limit : ℕ) (operand : (left p : ℕ) → Nodes) (left at : ℕ) where
+  pub node-pair : (operation : Term → Term → Term) → pairOf operation (operand (left - 1) (at + 1)) operand ≡ nodeOf bytes end limit operand (two-expressions operation) left at
+  unfolding nodeOf
+  node-pair operation = refl
+
+  pub node-shift : at + 2 ≤ end → getD bytes (at + 1) 0 ≤ mostCount → applied (shift (getD bytes (at + 1) 0)) (operand (left - 1) (at + 2)) ≡ nodeOf bytes end limit operand (count-and-expression shift) left at
+  unfolding nodeOf byteAt _>>=_ check
+  node-shift h k = rw (le-leb (at + 1 + 1) end (omega arith), le-leb (getD bytes (at + 1) 0) mostCount k)
 
 -- ---- an expression
 abbrev pub withoutLeft : Nodes → Result ReadError (Term × ℕ)

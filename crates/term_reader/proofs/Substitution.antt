@@ -5,21 +5,21 @@ use mathlib.Core.List.{List, [], _∷_}
 use Prim.Native.Nat.{ℕ, zero, suc, _+_, _-_, _<_}
 use native.Mathlib.Omega.{arith}
 use native.Mathlib.Decide.{decLt}
-use lib.Dec.{ltb}
+use lib.Dec.{leb, ltb}
 use lib.ListN.{getD, getElem?}
 use borrow.Author.Tests.{ltb-true}
 use Rattle.model.specs.Result.{Result, stop, value, _>>=_, check, found}
-use Rattle.model.specs.Term.{Term, constant, variable, sum, difference, substitute}
+use Rattle.model.specs.Term.{Term, constant, variable, sum, difference, mask, shift, substitute}
 use Rattle.model.specs.Atom.{Atom, substituteAtom}
 use Rattle.model.specs.Field.{ReadError, fault, byteAt, halfAt, wordAt}
-use Rattle.model.specs.Expression.{two-expressions, forms, comparisons, Nodes, nodeOf, nodesAt, expressionAt, atomAt, registerCount, mostNodes}
+use Rattle.model.specs.Expression.{two-expressions, forms, mostCount, comparisons, Nodes, nodeOf, nodesAt, expressionAt, atomAt, registerCount, mostNodes}
 use Rattle.model.specs.Goals.{registerVariables}
 use Rattle.workspace.specs.Layout.{tableBase, Same}
 use Rattle.terms.specs.Table.{operationOf, place}
 use Rattle.term_reader.specs.Reader.{over, mapped, nodesOver, expressionOver, atomOver, variableTerm, RegisterTerms}
 use Rattle.workspace.proofs.Frames.{same-within}
 use Rattle.terms.proofs.Table.{term-same}
-use Rattle.term_reader.proofs.Reading.{pairOf, operation-keeps, pair-over, withoutLeft, without-over, twoSides, sides-over}
+use Rattle.term_reader.proofs.Reading.{applied, pairOf, operation-keeps, shift-over, pair-over, withoutLeft, without-over, twoSides, sides-over}
 use Rattle.term_reader.proofs.Building.{variable-register, variable-new}
 
 -- ---- terms
@@ -29,6 +29,8 @@ over-variable (constant c) = refl
 over-variable (variable v) = refl
 over-variable (sum s t) = ap₂ sum (over-variable s) (over-variable t)
 over-variable (difference s t) = ap₂ difference (over-variable s) (over-variable t)
+over-variable (mask s t) = ap₂ mask (over-variable s) (over-variable t)
+over-variable (shift count s) = ap (shift count) (over-variable s)
 
 pub over-registers : (terms : List Term) (t : Term) → over (λ v. getD terms v (constant 0)) t ≡ substitute terms t
 unfolding over substitute
@@ -36,6 +38,8 @@ over-registers terms (constant c) = refl
 over-registers terms (variable v) = refl
 over-registers terms (sum s t) = ap₂ sum (over-registers terms s) (over-registers terms t)
 over-registers terms (difference s t) = ap₂ difference (over-registers terms s) (over-registers terms t)
+over-registers terms (mask s t) = ap₂ mask (over-registers terms s) (over-registers terms t)
+over-registers terms (shift count s) = ap (shift count) (over-registers terms s)
 
 -- ---- what is read has variables below the limit, so terms that agree there give the same
 module _ {E B C : Type 0} (f g : B → C) where
@@ -58,13 +62,20 @@ module _ (bytes : List ℕ) (end limit : ℕ) (σ τ : ℕ → Term) (agree : (v
         ∙ ap₂ (λ x y. pairOf (operationOf tag) x y) (same (left - 1) (p + 1)) (fun-ext (λ l. fun-ext (λ q. same l q)))
         ∙ sym (pair-over τ (operationOf tag) (operation-keeps tag τ) (operand (left - 1) (p + 1)) operand)
 
+    shift-agree : (count : ℕ) → nodesOver σ (applied (shift count) (operand (left - 1) (p + 2))) ≡ nodesOver τ (applied (shift count) (operand (left - 1) (p + 2)))
+    shift-agree count =
+        shift-over σ count (operand (left - 1) (p + 2)) ∙ ap (applied (shift count)) (same (left - 1) (p + 2)) ∙ sym (shift-over τ count (operand (left - 1) (p + 2)))
+
     node-agree : (tag : ℕ) → nodesOver σ (found (getElem? forms tag) (fault p) >>= (λ form. nodeOf bytes end limit operand form left p)) ≡ nodesOver τ (found (getElem? forms tag) (fault p) >>= (λ form. nodeOf bytes end limit operand form left p))
     unfolding nodeOf _>>=_ found mapped over
     node-agree zero = bind-agree _ _ (wordAt bytes end (p + 1)) _ (λ c. refl)
     node-agree (suc zero) = bind-agree _ _ (halfAt bytes end (p + 1)) _ (λ v. check-agree _ _ (ltb v limit) (fault (p + 1)) _ (λ e. ap (λ t. value (t, p + 3, left - 1)) (agree v (ltb-true v limit e))))
     node-agree (suc (suc zero)) = pair-agree 2
     node-agree (suc (suc (suc zero))) = pair-agree 3
-    node-agree (suc (suc (suc (suc tag)))) = refl
+    node-agree (suc (suc (suc (suc zero)))) = pair-agree 4
+    node-agree (suc (suc (suc (suc (suc zero))))) =
+        bind-agree _ _ (byteAt bytes end (p + 1)) _ (λ count. check-agree _ _ (leb count mostCount) (fault (p + 1)) _ (λ e. shift-agree count))
+    node-agree (suc (suc (suc (suc (suc (suc tag)))))) = refl
 
   nodes-agree : (depth left p : ℕ) → nodesOver σ (nodesAt bytes end limit depth left p) ≡ nodesOver τ (nodesAt bytes end limit depth left p)
   unfolding nodesAt _>>=_ mapped

@@ -6,7 +6,7 @@ use Prim.Native.Nat.{ℕ, zero, suc, _+_, _<_, _≤_}
 use lib.Dec.{ltb}
 use lib.ListN.{getD}
 use Rattle.model.specs.Result.{Result, stop, value}
-use Rattle.model.specs.Term.{Term, constant, variable, sum, difference}
+use Rattle.model.specs.Term.{Term, constant, variable, sum, difference, mask, shift}
 use Rattle.model.specs.Atom.{Atom}
 use Rattle.model.specs.Field.{ReadError, missing, fault}
 use Rattle.model.specs.Expression.{Form, Nodes, nodeOf, nodesAt, expressionAt, atomAt, mostNodes, registerCount}
@@ -23,6 +23,8 @@ over σ (constant c) = constant c
 over σ (variable v) = σ v
 over σ (sum s t) = sum (over σ s) (over σ t)
 over σ (difference s t) = difference (over σ s) (over σ t)
+over σ (mask s t) = mask (over σ s) (over σ t)
+over σ (shift count s) = shift count (over σ s)
 
 abbrev pub overAtom : (σ : ℕ → Term) → Atom → Atom
 overAtom σ a = record { kind = a .kind; left = over σ (a .left); right = over σ (a .right) }

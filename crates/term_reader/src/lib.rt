@@ -1,5 +1,6 @@
 // The reader that builds expressions and atoms in the term table. The variable of a register is the node registers[v].
 use fields::kinds;
+use limits::MOST_COUNT;
 use limits::MOST_NODES;
 use limits::REGISTERS;
 use model::Comparison;
@@ -8,8 +9,10 @@ ghost use Prim.Native.Nat.{_+_, _≤_, _<_};
 ghost use lib.ListN.{length, getD};
 ghost use Rattle.model.specs.Expression.{mostNodes, four-byte-constant, two-byte-variable};
 ghost use Rattle.workspace.specs.Layout.{mostVariables};
-ghost use Rattle.terms.specs.Table.{operationOf, termAt, Formed, Space, Put};
 ghost use Rattle.term_reader.specs.Reader.{unreadOf, atomNodes, Ready, NodeRead, NodesRead, ExpressionRead, AtomRead};
+
+// The most that a count byte may say.
+const COUNT: u8 = MOST_COUNT as u8;
 
 // What reading an expression gives: its node, the next position, the nodes left and the table's new top; or bytes are missing; or a
 // fault at a position.
@@ -104,24 +107,7 @@ fn read_variable(
     }
 }
 
-// Puts the sum, for tag 2, or the difference, for tag 3, of two nodes at node top.
-fn put_pair(ws: &mut [u32], top: usize, tag: u8, left: u32, right: u32)
-    requires { ⌜ Formed (now ws) top ⌝ }
-    requires { ⌜ Space (now ws) top 1 ⌝ }
-    requires { ⌜ (left < top) × (right < top) ⌝ }
-    requires { ⌜ (1 < tag) × (tag < 4) ⌝ }
-    ensures { λ _. ⌜ Put (now (ws .entry)) (now (ws .exit)) top (operationOf tag (termAt (now (ws .entry)) left) (termAt (now (ws .entry)) right)) ⌝ }
-{
-    let a = fields::wide(left);
-    let b = fields::wide(right);
-    if tag == 2 {
-        terms::put_sum(ws, top, a, b);
-        return;
-    }
-    terms::put_difference(ws, top, a, b);
-}
-
-// The sum, for tag 2, or the difference, for tag 3, at `at`: two expressions after the tag.
+// The sum, for tag 2, the difference, for tag 3, or the mask, for tag 4, at `at`: two expressions after the tag.
 fn read_pair(
     bytes: &[u8],
     ws: &mut [u32],
@@ -136,7 +122,7 @@ fn read_pair(
     requires { ⌜ (end ≤ length (now bytes)) × (limit ≤ mostVariables) ⌝ }
     requires { ⌜ Ready (now ws) registers top left ⌝ }
     requires { ⌜ (at < end) × (0 < left) ⌝ }
-    requires { ⌜ (tag ≡ getD (now bytes) at 0) × (1 < tag) × (tag < 4) ⌝ }
+    requires { ⌜ (tag ≡ getD (now bytes) at 0) × (1 < tag) × (tag < 5) ⌝ }
     ensures { λ r. ⌜ NodesRead (now (ws .entry)) (now (ws .exit)) registers (now (bytes .entry)) end limit at left top r ⌝ }
 {
     let start = at + 1;
@@ -157,7 +143,7 @@ fn read_pair(
                 left: last,
                 top: high,
             } => {
-                put_pair(ws, high, tag, a, b);
+                terms::put_pair(ws, high, tag as u32, fields::wide(a), fields::wide(b));
                 Parse::Term {
                     number: high as u32,
                     next: after,
@@ -166,6 +152,51 @@ fn read_pair(
                 }
             }
         },
+    }
+}
+
+// The shift, tag 5, at `at`: a count and an expression after the tag.
+fn read_shift(
+    bytes: &[u8],
+    ws: &mut [u32],
+    end: usize,
+    limit: usize,
+    registers: [u32; REGISTERS],
+    at: usize,
+    left: u32,
+    top: usize,
+) -> Parse
+    requires { ⌜ (end ≤ length (now bytes)) × (limit ≤ mostVariables) ⌝ }
+    requires { ⌜ Ready (now ws) registers top left ⌝ }
+    requires { ⌜ (at < end) × (0 < left) ⌝ }
+    requires { ⌜ getD (now bytes) at 0 ≡ 5 ⌝ }
+    ensures { λ r. ⌜ NodesRead (now (ws .entry)) (now (ws .exit)) registers (now (bytes .entry)) end limit at left top r ⌝ }
+{
+    if end - at < 2 {
+        return Parse::Missing;
+    }
+    let count = bytes[at + 1];
+    if COUNT < count {
+        return Parse::Fault(at + 1);
+    }
+    let start = at + 2;
+    match read(bytes, ws, end, limit, registers, start, left - 1, top) {
+        Parse::Missing => Parse::Missing,
+        Parse::Fault(p) => Parse::Fault(p),
+        Parse::Term {
+            number: a,
+            next: after,
+            left: last,
+            top: high,
+        } => {
+            terms::put_shift(ws, high, count as u32, fields::wide(a));
+            Parse::Term {
+                number: high as u32,
+                next: after,
+                left: last,
+                top: high + 1,
+            }
+        }
     }
 }
 
@@ -194,7 +225,8 @@ fn read(
     match tag {
         0 => read_constant(bytes, ws, end, limit, registers, at, left, top),
         1 => read_variable(bytes, ws, end, limit, registers, at, left, top),
-        2 | 3 => read_pair(bytes, ws, end, limit, registers, at, left, top, tag),
+        2..=4 => read_pair(bytes, ws, end, limit, registers, at, left, top, tag),
+        5 => read_shift(bytes, ws, end, limit, registers, at, left, top),
         _ => Parse::Fault(at),
     }
 }

@@ -1,6 +1,6 @@
 -- Laws of the term table. Assumes nothing.
 use mathlib.Core.Path.{_≡_, refl, sym, ap, ap₂, subst, _∙_}
-use mathlib.Core.Logic.{⊎-elim}
+use mathlib.Core.Logic.{⊎-elim, _≢_}
 use mathlib.Core.List.{List, []}
 use Prim.Native.Nat.{ℕ, zero, suc, _+_, _*_, _%_, _<_, _≤_}
 use native.Mathlib.Nat.{eq-or-lt-of-le, le-of-suc-le-suc, not-suc-le-zero}
@@ -8,20 +8,44 @@ use native.Mathlib.Numerals.{add-one}
 use native.Mathlib.Omega.{arith}
 use lib.ListN.{length, getD, length-append, List·getD-append}
 use lib.Seq.{getD-at}
-use Rattle.model.specs.Term.{constant, sum, difference}
+use Rattle.model.specs.Term.{constant, sum, difference, mask, shift}
 use Rattle.model.specs.Verdict.{leastWorkspace}
-use Rattle.workspace.specs.Layout.{tableBase, Same, stored}
-use Rattle.terms.specs.Table.{low, high, place, marksAt, nodeOfTag, viewOf, build, termsBelow, termAt, termOf, InOrder, Known, Formed, Put, Space, Fits, Twinned}
+use Rattle.workspace.specs.Layout.{tableBase, mostTableNodes, Same, stored}
+use Rattle.terms.specs.Table.{low, high, place, valueAt, marksAt, nodeOfTag, viewOf, build, termsBelow, termAt, termOf, valueOf, InOrder, Marked, Shaped, Formed, Put, Space, Fits, Twinned}
 use Rattle.terms.specs.declared.Node.{Node}
-use Rattle.terms.specs.declared.Node.the-variants.{Constant, Variable, Sum, Difference}
+use Rattle.terms.specs.declared.Node.the-variants.{Constant, Variable, Sum, Difference, Mask, Shift}
 use Rattle.workspace.proofs.Frames.{same-trans, same-within, stored-length, stored-before, stored-first, stored-second, stored-third}
 
 -- ---- one node
-pub other-tag : (t p v : ℕ) → (t ≡ 0 → ⊥) → (t ≡ 1 → ⊥) → (t ≡ 2 → ⊥) → nodeOfTag t p v ≡ Difference (low p) (high p)
-other-tag zero p v a b c = absurd (a refl)
-other-tag (suc zero) p v a b c = absurd (b refl)
-other-tag (suc (suc zero)) p v a b c = absurd (c refl)
-other-tag (suc (suc (suc t))) p v a b c = refl
+-- a tag above 4 is a shift's
+pub shift-tag : (t p v : ℕ) → 4 < t → nodeOfTag t p v ≡ Shift (high p) (low p)
+shift-tag zero p v h = absurd (omega arith)
+shift-tag (suc zero) p v h = absurd (omega arith)
+shift-tag (suc (suc zero)) p v h = absurd (omega arith)
+shift-tag (suc (suc (suc zero))) p v h = absurd (omega arith)
+shift-tag (suc (suc (suc (suc zero)))) p v h = absurd (omega arith)
+shift-tag (suc (suc (suc (suc (suc t))))) p v h = refl
+
+-- a tag that is none of the others
+pub other-tag : (t : ℕ) → t ≢ 0 → t ≢ 1 → t ≢ 2 → t ≢ 3 → t ≢ 4 → 4 < t
+other-tag t a b c d e = omega arith
+
+-- the parts of an operation come before it
+pub first-before : (i t p v : ℕ) → 1 < t → InOrder i (nodeOfTag t p v) → low p < i
+first-before i zero p v h o = absurd (omega arith)
+first-before i (suc zero) p v h o = absurd (omega arith)
+first-before i (suc (suc zero)) p v h o = o .0
+first-before i (suc (suc (suc zero))) p v h o = o .0
+first-before i (suc (suc (suc (suc zero)))) p v h o = o .0
+first-before i (suc (suc (suc (suc (suc t))))) p v h o = o
+
+pub second-before : (i t p v : ℕ) → (1 < t) × (t < 5) → InOrder i (nodeOfTag t p v) → high p < i
+second-before i zero p v h o = absurd (omega arith)
+second-before i (suc zero) p v h o = absurd (omega arith)
+second-before i (suc (suc zero)) p v h o = o .1
+second-before i (suc (suc (suc zero))) p v h o = o .1
+second-before i (suc (suc (suc (suc zero)))) p v h o = o .1
+second-before i (suc (suc (suc (suc (suc t))))) p v h o = absurd (omega arith)
 
 -- ---- the terms of a table
 length-terms : (ws : List ℕ) (n : ℕ) → length (termsBelow ws n) ≡ n
@@ -43,38 +67,85 @@ build-in-order ws i (Constant n) b = refl
 build-in-order ws i (Variable v) b = refl
 build-in-order ws i (Sum l r) b = ap₂ sum (terms-at ws i l (b .0)) (terms-at ws i r (b .1))
 build-in-order ws i (Difference l r) b = ap₂ difference (terms-at ws i l (b .0)) (terms-at ws i r (b .1))
+build-in-order ws i (Mask l r) b = ap₂ mask (terms-at ws i l (b .0)) (terms-at ws i r (b .1))
+build-in-order ws i (Shift count l) b = ap (shift count) (terms-at ws i l b)
 
 -- a node's term is built of its parts' terms
-built : (ws : List ℕ) (i : ℕ) → InOrder i (viewOf ws i) → termAt ws i ≡ build (termAt ws) (viewOf ws i)
+pub built : (ws : List ℕ) (i : ℕ) → InOrder i (viewOf ws i) → termAt ws i ≡ build (termAt ws) (viewOf ws i)
 unfolding termsBelow termAt
 built ws i b = getD-at (termsBelow ws i) _ [] (constant 0) i (length-terms ws i) ∙ build-in-order ws i (viewOf ws i) b
 
 -- a shorter table
+pub shaped-less : {ws : List ℕ} {n : ℕ} (m : ℕ) → m ≤ n → Shaped ws n → Shaped ws m
+shaped-less m h f = record { words = f .words; fits = omega (arith, f .fits); nodes = λ i l. f .nodes i (omega arith); marked = λ i l. f .marked i (omega arith) }
+
 pub formed-less : {ws : List ℕ} {n : ℕ} (m : ℕ) → m ≤ n → Formed ws n → Formed ws m
-formed-less m h f = record { room = omega arith; nodes = λ i l. f .nodes i (omega arith); known = λ i l. f .known i (omega arith) }
+formed-less m h f = record { shaped = shaped-less m h (f .shaped); values = λ i l. f .values i (omega arith) }
 
 -- no node
 pub formed-none : {ws : List ℕ} → leastWorkspace ≤ length ws → Formed ws 0
-formed-none h = record { room = omega arith; nodes = λ i l. absurd (omega arith); known = λ i l. absurd (omega arith) }
+formed-none h = record {
+  shaped = record { words = h; fits = omega arith; nodes = λ i l. absurd (omega arith); marked = λ i l. absurd (omega arith) };
+  values = λ i l. absurd (omega arith);
+}
 
--- ---- node i as an arm of `match view(..)` knows it
+-- ---- node i
+module _ {ws : List ℕ} {i : ℕ} (f : Shaped ws (suc i)) where
+  pub marks-here : Marked ws i
+  marks-here = f .marked i (omega arith)
+
+  pub order-here : InOrder i (viewOf ws i)
+  order-here = f .nodes i (omega arith)
+
+  pub built-here : termAt ws i ≡ build (termAt ws) (viewOf ws i)
+  built-here = built ws i order-here
+
+  pub shaped-part : {j : ℕ} → j < i → Shaped ws (suc j)
+  shaped-part h = shaped-less _ (omega arith) f
+
+-- as an arm of `match view(..)` knows it
 module _ {ws : List ℕ} {i : ℕ} (f : Formed ws (suc i)) where
   module _ {n m : Node} (e : n ≡ viewOf ws i) (a : n ≡ m) where
     pub node-order : InOrder i m
-    node-order = subst (InOrder i) (sym e ∙ a) (f .nodes i (omega arith))
+    node-order = subst (InOrder i) (sym e ∙ a) (order-here (f .shaped))
 
     pub node-built : termAt ws i ≡ build (termAt ws) m
-    node-built = built ws i (f .nodes i (omega arith)) ∙ ap (build (termAt ws)) (sym e ∙ a)
+    node-built = built-here (f .shaped) ∙ ap (build (termAt ws)) (sym e ∙ a)
 
-  pub beside : Known ws i
-  beside = f .known i (omega arith)
+  pub value-here : valueAt ws i ≡ valueOf (termAt ws i)
+  value-here = f .values i (omega arith)
 
   pub part : {j : ℕ} → j < i → Formed ws (suc j)
   part h = formed-less _ (omega arith) f
 
 -- nodes for which the same node stands have the same term
-pub same-terms : {ws : List ℕ} {i j : ℕ} → Formed ws (suc i) → Formed ws (suc j) → high (marksAt ws i) ≡ high (marksAt ws j) → termAt ws i ≡ termAt ws j
-same-terms {ws} f g e = sym (beside f .twin) ∙ ap (termAt ws) e ∙ beside g .twin
+pub same-terms : {ws : List ℕ} {i j : ℕ} → Shaped ws (suc i) → Shaped ws (suc j) → high (marksAt ws i) ≡ high (marksAt ws j) → termAt ws i ≡ termAt ws j
+same-terms {ws} f g e = sym (marks-here f .twin) ∙ ap (termAt ws) e ∙ marks-here g .twin
+
+-- ---- the terms of a table go by its nodes alone, whatever else the words hold
+module _ (ws us : List ℕ) (n : ℕ) (views : (i : ℕ) → i < n → viewOf us i ≡ viewOf ws i) where
+  terms-viewed : (m : ℕ) → m ≤ n → termsBelow us m ≡ termsBelow ws m
+  unfolding termsBelow
+  terms-viewed zero h = refl
+  terms-viewed (suc m) h = rw (terms-viewed m (omega arith), views m h)
+
+  pub term-viewed : (i : ℕ) → i < n → termAt us i ≡ termAt ws i
+  unfolding termAt
+  term-viewed i h = ap (λ l. getD l i (constant 0)) (terms-viewed (suc i) h)
+
+  module _ (marks : (i : ℕ) → i < n → marksAt us i ≡ marksAt ws i) where
+    marked-viewed : (i : ℕ) → i < n → Marked ws i → Marked us i
+    marked-viewed i h k =
+        let t : termAt us i ≡ termAt ws i = term-viewed i h in
+        let m : marksAt us i ≡ marksAt ws i = marks i h in
+        record {
+          facts = rw (m, t) (k .facts);
+          before = rw m (k .before);
+          twin = rw (m, t, term-viewed (high (marksAt ws i)) (omega (arith, k .before))) (k .twin);
+        }
+
+    pub shaped-viewed : length us ≡ length ws → Shaped ws n → Shaped us n
+    shaped-viewed e f = record { words = omega (arith, f .words); fits = f .fits; nodes = λ i h. rw (views i h) (f .nodes i h); marked = λ i h. marked-viewed i h (f .marked i h) }
 
 -- ---- words that keep the table
 module _ {ws us : List ℕ} where
@@ -82,41 +153,31 @@ module _ {ws us : List ℕ} where
   unfolding viewOf
   node-same n s i h = rw (s .word (place i) (omega arith) (omega arith), s .word (place i + 1) (omega arith) (omega arith), s .word (place i + 2) (omega arith) (omega arith))
 
-  -- the terms of a table go by its own words alone
-  terms-same : (n : ℕ) → Same tableBase (place n) ws us → termsBelow us n ≡ termsBelow ws n
-  unfolding termsBelow
-  terms-same zero s = refl
-  terms-same (suc n) s = rw (terms-same n (same-within tableBase (place n) (omega arith) (omega arith) s), node-same (suc n) s n (omega arith))
-
   pub term-same : (n : ℕ) → Same tableBase (place n) ws us → (i : ℕ) → i < n → termAt us i ≡ termAt ws i
-  unfolding termAt
-  term-same n s i h = ap (λ l. getD l i (constant 0)) (terms-same (suc i) (same-within tableBase (place (suc i)) (omega arith) (omega arith) s))
-
-  known-same : (n : ℕ) → Same tableBase (place n) ws us → (i : ℕ) → i < n → Known ws i → Known us i
-  known-same n s i h k =
-      let t : termAt us i ≡ termAt ws i = term-same n s i h in
-      let m : marksAt us i ≡ marksAt ws i = s .word (place i + 2) (omega arith) (omega arith) in
-      record {
-        facts = rw (m, t) (k .facts);
-        value = rw (s .word (place i + 1) (omega arith) (omega arith), t) (k .value);
-        before = rw m (k .before);
-        twin = rw (m, t, term-same n s (high (marksAt ws i)) (omega (arith, k .before))) (k .twin);
-      }
+  term-same n s = term-viewed ws us n (node-same n s)
 
   pub formed-same : (n : ℕ) → Same tableBase (place n) ws us → length us ≡ length ws → Formed ws n → Formed us n
-  formed-same n s e f = record { room = omega arith; nodes = λ i h. rw (node-same n s i h) (f .nodes i h); known = λ i h. known-same n s i h (f .known i h) }
+  formed-same n s e f = record {
+    shaped = shaped-viewed ws us n (node-same n s) (λ i h. s .word (place i + 2) (omega arith) (omega arith)) e (f .shaped);
+    values = λ i h. rw (s .word (place i + 1) (omega arith) (omega arith), term-same n s i h) (f .values i h);
+  }
 
   build-same : (n : ℕ) → Same tableBase (place n) ws us → (o : Node) → InOrder n o → build (termAt us) o ≡ build (termAt ws) o
   build-same n s (Constant v) b = refl
   build-same n s (Variable v) b = refl
   build-same n s (Sum l r) b = ap₂ sum (term-same n s l (b .0)) (term-same n s r (b .1))
   build-same n s (Difference l r) b = ap₂ difference (term-same n s l (b .0)) (term-same n s r (b .1))
+  build-same n s (Mask l r) b = ap₂ mask (term-same n s l (b .0)) (term-same n s r (b .1))
+  build-same n s (Shift count l) b = ap (shift count) (term-same n s l b)
 
-formed-more : {ws : List ℕ} {n : ℕ} → Formed ws n → place (suc n) ≤ length ws → InOrder n (viewOf ws n) → Known ws n → Formed ws (suc n)
-formed-more {ws} {n} f h b k = record {
-  room = h;
-  nodes = λ i l. ⊎-elim (λ e. rw e b) (λ m. f .nodes i m) (eq-or-lt-of-le (le-of-suc-le-suc l));
-  known = λ i l. ⊎-elim (λ e. subst (Known ws) (sym e) k) (λ m. f .known i m) (eq-or-lt-of-le (le-of-suc-le-suc l));
+-- of each of the first nodes, and of one more
+and-last : {P : ℕ → Type 0} (n : ℕ) → ((i : ℕ) → i < n → P i) → P n → (i : ℕ) → i < suc n → P i
+and-last {P} n f p i l = ⊎-elim (λ e. subst P (sym e) p) (λ m. f i m) (eq-or-lt-of-le (le-of-suc-le-suc l))
+
+formed-more : {ws : List ℕ} {n : ℕ} → Formed ws n → suc n ≤ mostTableNodes → InOrder n (viewOf ws n) → Marked ws n → valueAt ws n ≡ valueOf (termAt ws n) → Formed ws (suc n)
+formed-more {ws} {n} f h b k v = record {
+  shaped = record { words = f .shaped .words; fits = h; nodes = and-last n (f .shaped .nodes) b; marked = and-last n (f .shaped .marked) k };
+  values = and-last n (f .values) v;
 }
 
 pub found-in : {ws vs : List ℕ} {top parts value facts first : ℕ} → Twinned ws vs top parts value facts first → first ≤ top
@@ -133,10 +194,10 @@ module _ {ws vs us : List ℕ} {top parts value facts first : ℕ} (f : Formed w
   new-marks : marksAt us top ≡ marks
   new-marks = rw (e, stored-third vs (place top) parts value marks enough)
 
-  new-node : viewOf us top ≡ nodeOfTag (facts % 4) parts value
+  new-node : viewOf us top ≡ nodeOfTag (facts % 8) parts value
   unfolding viewOf
   new-node =
-      let m : marks % 4 ≡ facts % 4 = omega arith in
+      let m : marks % 8 ≡ facts % 8 = omega arith in
       rw (new-marks, m, e, stored-first vs (place top) parts value marks enough, stored-second vs (place top) parts value marks enough)
 
   below-top : Same 0 (place top) ws us
@@ -149,37 +210,31 @@ module _ {ws vs us : List ℕ} {top parts value facts first : ℕ} (f : Formed w
   new-order = rw new-node (fits .order)
 
   new-term : termAt us top ≡ termOf ws parts value facts
-  new-term = built us top new-order ∙ ap (build (termAt us)) new-node ∙ build-same top table (nodeOfTag (facts % 4) parts value) (fits .order)
+  new-term = built us top new-order ∙ ap (build (termAt us)) new-node ∙ build-same top table (nodeOfTag (facts % 8) parts value) (fits .order)
 
   first-term : termAt us first ≡ termAt us top
   first-term =
       ⊎-elim
       (λ h. ap (termAt us) h)
-      (λ h. term-same top table first (h .0) ∙ built ws first (f .nodes first (h .0)) ∙ ap (build (termAt ws)) (h .1) ∙ sym new-term)
+      (λ h. term-same top table first (h .0) ∙ built ws first (f .shaped .nodes first (h .0)) ∙ ap (build (termAt ws)) (h .1) ∙ sym new-term)
       (t .found)
 
-  new-known : Known us top
-  new-known =
+  new-marked : Marked us top
+  new-marked =
       let l : low marks ≡ facts = omega arith in
       let h : high marks ≡ first = omega arith in
       record {
         facts = rw (new-marks, l, new-term) (fits .facts-are);
-        value = rw (new-term, e, stored-second vs (place top) parts value marks enough) (fits .value-is);
         before = rw (new-marks, h) (found-in t);
         twin = rw (new-marks, h) first-term;
       }
 
+  new-value : valueAt us top ≡ valueOf (termAt us top)
+  new-value = rw (new-term, e, stored-second vs (place top) parts value marks enough) (fits .value-is)
+
   pub put-node : Put ws us top (termOf ws parts value facts)
   put-node = record {
     kept = below-top;
-    formed = formed-more (formed-same top table (ap length e ∙ stored-length vs (place top) parts value marks ∙ long) f) (rw (e, stored-length vs (place top) parts value marks) (omega arith)) new-order new-known;
+    formed = formed-more (formed-same top table (ap length e ∙ stored-length vs (place top) parts value marks ∙ long) f) (omega (arith, room .fits)) new-order new-marked new-value;
     is = new-term;
   }
-
--- ---- a call on a part, in a recursion whose measure is the node's number: the measure falls, and the part's nodes are formed
-module _ {ws : List ℕ} {i t l r : ℕ} (e : i ≡ t) (f : Formed ws (suc i)) (b : (l < i) × (r < i)) where
-  pub first : (l < t) × Formed ws (suc l)
-  first = (omega arith, part f (b .0))
-
-  pub second : (r < t) × Formed ws (suc r)
-  second = (omega arith, part f (b .1))

@@ -1,6 +1,6 @@
 // The term table in the lent workspace: node i lies in the three words from TABLE + 3 * i: its parts, its value and its marks. Beside each
-// node stand the facts that other walks would look for: its tag, its size, its value where it is closed, and an earlier node of the same
-// term where one is known.
+// node stand the facts that other walks would look for: its tag, its size, whether it has variables, masks or shifts, its value where it has
+// none of them, and an earlier node of the same term where one is known.
 use limits::MOST_TERM_NODES;
 use workspace::HINT_COUNT;
 use workspace::HINTS;
@@ -10,18 +10,22 @@ ghost use mathlib.Core.Bool.{_&&_};
 ghost use Prim.Native.Nat.{suc, _+_, _*_, _/_, _%_, _≤_, _<_};
 ghost use lib.ListN.{length, set};
 ghost use lib.Dec.{eqb, leb};
-ghost use Rattle.model.specs.Term.{constant, variable, sum, difference, eqTerm, size as sizeOf};
+ghost use Rattle.model.specs.Term.{constant, variable, sum, difference, mask as maskOf, shift as shiftOf, eval, eqTerm, size as sizeOf};
+ghost use Rattle.model.specs.Expression.{mostCount};
 ghost use Rattle.model.specs.Goals.{mostTermNodes};
-ghost use Rattle.workspace.specs.Layout.{mostVariables, hintBase, hints, stored};
-ghost use Rattle.terms.specs.Table.{low as lowOf, high as highOf, partsAt, valueAt, marksAt, closedAt, viewOf, operationOf, termAt, termOf, sizeCap, capped, valueOf, place, Formed, Space, Put, Fits, Twinned};
+ghost use Rattle.model.specs.Verdict.{leastWorkspace};
+ghost use Rattle.workspace.specs.Layout.{mostVariables, hintBase, stored};
+ghost use Rattle.terms.specs.Table.{low as lowOf, high as highOf, partsAt, valueAt, marksAt, valuedAt, viewOf, operationOf, termAt, termOf, plain as isPlain, plainPair, pairValue, leafNumber, sizeCap, capped, valueOf, place, Shaped, Formed, Space, Put, Fits, Twinned};
 ghost use Rattle.terms.specs.Closed.{closedValue};
 
-// A node of the table: a sum and a difference name their parts by node number.
+// A node of the table: an operation names its parts by node number; a shift has its count first.
 pub enum Node {
     Constant(u32),
     Variable(u32),
     Sum(usize, usize),
     Difference(usize, usize),
+    Mask(usize, usize),
+    Shift(u32, usize),
 }
 
 // The value of a term without variables.
@@ -33,11 +37,11 @@ pub enum Closed {
 // Sizes are kept up to this, one more than the nodes of a register's term.
 const SIZE_CAP: u32 = MOST_TERM_NODES + 1;
 
-// The facts of a constant: tag 0, closed, one node.
-const CONSTANT: u32 = 12;
+// The facts of a constant: tag 0, closed, plain, one node.
+const CONSTANT: u32 = 56;
 
-// The facts of a variable: tag 1, not closed, one node.
-const VARIABLE: u32 = 9;
+// The facts of a variable: tag 1, not closed, plain, one node.
+const VARIABLE: u32 = 49;
 
 // ---- words
 
@@ -63,6 +67,38 @@ fn marks(ws: &[u32], i: usize) -> u32
     ws[TABLE + 3 * i + 2]
 }
 
+// The tag of node i.
+pub fn tag(ws: &[u32], i: usize) -> u32
+    requires { ⌜ place (suc i) ≤ length (now ws) ⌝ }
+    ensures { λ r. ⌜ r ≡ marksAt (now (ws .entry)) i % 8 ⌝ }
+{
+    marks(ws, i) % 8
+}
+
+// The parts of node i, in one word.
+fn parts(ws: &[u32], i: usize) -> u32
+    requires { ⌜ place (suc i) ≤ length (now ws) ⌝ }
+    ensures { λ r. ⌜ r ≡ partsAt (now (ws .entry)) i ⌝ }
+{
+    ws[TABLE + 3 * i]
+}
+
+// The first part of node i.
+pub fn first(ws: &[u32], i: usize) -> usize
+    requires { ⌜ place (suc i) ≤ length (now ws) ⌝ }
+    ensures { λ r. ⌜ r ≡ lowOf (partsAt (now (ws .entry)) i) ⌝ }
+{
+    fields::wide(low(parts(ws, i)))
+}
+
+// The second part of node i, or the count of a shift.
+pub fn second(ws: &[u32], i: usize) -> usize
+    requires { ⌜ place (suc i) ≤ length (now ws) ⌝ }
+    ensures { λ r. ⌜ (r ≡ highOf (partsAt (now (ws .entry)) i)) × (r < 65536) ⌝ }
+{
+    high(parts(ws, i))
+}
+
 // The value of node i.
 pub fn value(ws: &[u32], i: usize) -> u32
     requires { ⌜ place (suc i) ≤ length (now ws) ⌝ }
@@ -81,24 +117,31 @@ pub fn set_value(ws: &mut [u32], i: usize, value: u32)
 
 // 1 for the marks of a closed term, 0 for others.
 fn is_closed(marks: u32) -> u32
-    ensures { λ r. ⌜ (r ≡ marks / 4 % 2) × (r < 2) ⌝ }
+    ensures { λ r. ⌜ (r ≡ marks / 8 % 2) × (r < 2) ⌝ }
 {
-    marks / 4 % 2
+    marks / 8 % 2
+}
+
+// 1 for the marks of a plain term, in which no mask or shift stands, 0 for others.
+fn is_plain(marks: u32) -> u32
+    ensures { λ r. ⌜ (r ≡ marks / 16 % 2) × (r < 2) ⌝ }
+{
+    marks / 16 % 2
 }
 
 // The size in marks: the cap if it is more.
 fn size(marks: u32) -> u32
-    ensures { λ r. ⌜ (r ≡ lowOf marks / 8) × (r < 8192) ⌝ }
+    ensures { λ r. ⌜ (r ≡ lowOf marks / 32) × (r < 2048) ⌝ }
 {
-    low(marks) / 8
+    low(marks) / 32
 }
 
-// Whether node i holds a value: its term is closed, by its marks.
+// Whether node i holds a value: its term is closed and plain, by its marks.
 pub fn holds_value(ws: &[u32], i: usize) -> bool
     requires { ⌜ place (suc i) ≤ length (now ws) ⌝ }
-    ensures { λ r. ⌜ r ≡ closedAt (now (ws .entry)) i ⌝ }
+    ensures { λ r. ⌜ r ≡ valuedAt (now (ws .entry)) i ⌝ }
 {
-    is_closed(marks(ws, i)) == 1
+    marks(ws, i) / 8 % 4 == 3
 }
 
 // Node i, in words that need not be a table.
@@ -109,12 +152,14 @@ pub fn node_at(ws: &[u32], i: usize) -> Node
     let at = TABLE + 3 * i;
     let parts = ws[at];
     let value = ws[at + 1];
-    let tag = ws[at + 2] % 4;
+    let tag = ws[at + 2] % 8;
     match tag {
         0 => Node::Constant(value),
         1 => Node::Variable(parts),
         2 => Node::Sum(fields::wide(low(parts)), high(parts)),
-        _ => Node::Difference(fields::wide(low(parts)), high(parts)),
+        3 => Node::Difference(fields::wide(low(parts)), high(parts)),
+        4 => Node::Mask(fields::wide(low(parts)), high(parts)),
+        _ => Node::Shift(parts / 65536, fields::wide(low(parts))),
     }
 }
 
@@ -140,7 +185,7 @@ fn store(ws: &mut [u32], at: usize, a: u32, b: u32, c: u32)
 
 // Where the hint for a node's words stands: any mixture of them will do.
 fn slot(parts: u32, value: u32, facts: u32) -> usize
-    ensures { λ r. ⌜ (hintBase ≤ r) × (r < hintBase + hints) ⌝ }
+    ensures { λ r. ⌜ (hintBase ≤ r) × (r < leastWorkspace) ⌝ }
 {
     let x = (parts as u64) * 40503 + (value as u64) * 60493 + (facts as u64) * 9973;
     let mixed = (x / 65536 + x) % (HINT_COUNT as u64);
@@ -220,40 +265,56 @@ fn at_most_cap(size: u32) -> u32
     size
 }
 
-// The facts of a pair, by its tag and the marks of its parts.
-fn joined(tag: u32, a: u32, b: u32) -> u32
-    requires { ⌜ tag < 4 ⌝ }
-    ensures { λ r. ⌜ (r ≡ tag + 4 * ((a / 4 % 2) * (b / 4 % 2)) + 8 * capped (lowOf a / 8 + lowOf b / 8 + 1)) × (r < 65536) ⌝ }
+// 1 for a sum or a difference of plain terms, by their marks; a mask, tag 4, is not plain.
+fn plain_pair(tag: u32, a: u32, b: u32) -> u32
+    ensures { λ r. ⌜ (r ≡ plainPair tag (a / 16 % 2) (b / 16 % 2)) × (r < 2) ⌝ }
 {
-    let size = at_most_cap(size(a) + size(b) + 1);
-    tag + 4 * (is_closed(a) * is_closed(b)) + 8 * size
+    if 3 < tag {
+        return 0;
+    }
+    is_plain(a) * is_plain(b)
 }
 
-// The value of the sum, for tag 2, or the difference, for tag 3, of two nodes: 0 where it is not closed.
+// The facts of a pair, by its tag and the marks of its parts.
+fn joined(tag: u32, a: u32, b: u32) -> u32
+    requires { ⌜ tag < 5 ⌝ }
+    ensures { λ r. ⌜ (r ≡ tag + 8 * ((a / 8 % 2) * (b / 8 % 2)) + 16 * plainPair tag (a / 16 % 2) (b / 16 % 2) + 32 * capped (lowOf a / 32 + lowOf b / 32 + 1)) × (r < 65536) ⌝ }
+{
+    let size = at_most_cap(size(a) + size(b) + 1);
+    tag + 8 * (is_closed(a) * is_closed(b)) + 16 * plain_pair(tag, a, b) + 32 * size
+}
+
+// The value of the sum, for tag 2, the difference, for tag 3, or the mask of two words.
+fn applied(tag: u32, a: u32, b: u32) -> u32
+    requires { ⌜ 1 < tag ⌝ }
+    ensures { λ r. ⌜ r ≡ pairValue tag a b ⌝ }
+{
+    match tag {
+        2 => fields::add(a, b),
+        3 => fields::sub(a, b),
+        _ => fields::mask(a, b),
+    }
+}
+
+// The value of the operation of a tag on two nodes, where it holds one; else 0.
 fn computed(ws: &[u32], tag: u32, left: usize, right: usize) -> u32
     requires { ⌜ Formed (now ws) (suc left) ⌝ }
     requires { ⌜ Formed (now ws) (suc right) ⌝ }
-    requires { ⌜ (1 < tag) × (tag < 4) ⌝ }
+    requires { ⌜ (1 < tag) × (tag < 5) ⌝ }
     ensures { λ r. ⌜ r ≡ valueOf (operationOf tag (termAt (now (ws .entry)) left) (termAt (now (ws .entry)) right)) ⌝ }
 {
-    if is_closed(marks(ws, left)) * is_closed(marks(ws, right)) == 0 {
-        return 0;
+    if (tag < 4) & holds_value(ws, left) & holds_value(ws, right) {
+        return applied(tag, value(ws, left), value(ws, right));
     }
-    let a = value(ws, left);
-    let b = value(ws, right);
-    if tag == 2 {
-        fields::add(a, b)
-    } else {
-        fields::sub(a, b)
-    }
+    0
 }
 
-// Puts the sum, for tag 2, or the difference, for tag 3, of two nodes at node top.
-fn put_pair(ws: &mut [u32], top: usize, tag: u32, left: usize, right: usize)
+// Puts the sum, for tag 2, the difference, for tag 3, or the mask, for tag 4, of two nodes at node top.
+pub fn put_pair(ws: &mut [u32], top: usize, tag: u32, left: usize, right: usize)
     requires { ⌜ Formed (now ws) top ⌝ }
     requires { ⌜ Space (now ws) top 1 ⌝ }
     requires { ⌜ (left < top) × (right < top) ⌝ }
-    requires { ⌜ (1 < tag) × (tag < 4) ⌝ }
+    requires { ⌜ (1 < tag) × (tag < 5) ⌝ }
     ensures { λ _. ⌜ Put (now (ws .entry)) (now (ws .exit)) top (operationOf tag (termAt (now (ws .entry)) left) (termAt (now (ws .entry)) right)) ⌝ }
 {
     let a = marks(ws, left);
@@ -284,12 +345,41 @@ pub fn put_difference(ws: &mut [u32], top: usize, left: usize, right: usize)
     put_pair(ws, top, 3, left, right);
 }
 
+// Puts the mask of two nodes at node top.
+pub fn put_mask(ws: &mut [u32], top: usize, left: usize, right: usize)
+    requires { ⌜ Formed (now ws) top ⌝ }
+    requires { ⌜ Space (now ws) top 1 ⌝ }
+    requires { ⌜ (left < top) × (right < top) ⌝ }
+    ensures { λ _. ⌜ Put (now (ws .entry)) (now (ws .exit)) top (maskOf (termAt (now (ws .entry)) left) (termAt (now (ws .entry)) right)) ⌝ }
+{
+    put_pair(ws, top, 4, left, right);
+}
+
+// The facts of a shift, tag 5, by the marks of its part.
+fn shifted(a: u32) -> u32
+    ensures { λ r. ⌜ (r ≡ 5 + 8 * (a / 8 % 2) + 32 * capped (lowOf a / 32 + 1)) × (r < 65536) ⌝ }
+{
+    5 + 8 * is_closed(a) + 32 * at_most_cap(size(a) + 1)
+}
+
+// Puts a node shifted right at node top.
+pub fn put_shift(ws: &mut [u32], top: usize, count: u32, part: usize)
+    requires { ⌜ Formed (now ws) top ⌝ }
+    requires { ⌜ Space (now ws) top 1 ⌝ }
+    requires { ⌜ (count ≤ mostCount) × (part < top) ⌝ }
+    ensures { λ _. ⌜ Put (now (ws .entry)) (now (ws .exit)) top (shiftOf count (termAt (now (ws .entry)) part)) ⌝ }
+{
+    let a = marks(ws, part);
+    let parts = high(a) + 65536 * fields::wide(count);
+    put(ws, top, parts as u32, 0, shifted(a));
+}
+
 // ---- terms
 
 // Whether the same node stands for the terms of nodes i and j.
 pub fn twins(ws: &[u32], i: usize, j: usize) -> bool
-    requires { ⌜ Formed (now ws) (suc i) ⌝ }
-    requires { ⌜ Formed (now ws) (suc j) ⌝ }
+    requires { ⌜ Shaped (now ws) (suc i) ⌝ }
+    requires { ⌜ Shaped (now ws) (suc j) ⌝ }
     ensures { λ r. ⌜ r ≡ eqb (highOf (marksAt (now (ws .entry)) i)) (highOf (marksAt (now (ws .entry)) j)) ⌝ }
 {
     high(marks(ws, i)) == high(marks(ws, j))
@@ -297,17 +387,29 @@ pub fn twins(ws: &[u32], i: usize, j: usize) -> bool
 
 // Whether the terms of nodes i and j have the same facts.
 fn alike(ws: &[u32], i: usize, j: usize) -> bool
-    requires { ⌜ Formed (now ws) (suc i) ⌝ }
-    requires { ⌜ Formed (now ws) (suc j) ⌝ }
+    requires { ⌜ Shaped (now ws) (suc i) ⌝ }
+    requires { ⌜ Shaped (now ws) (suc j) ⌝ }
     ensures { λ r. ⌜ r ≡ eqb (lowOf (marksAt (now (ws .entry)) i)) (lowOf (marksAt (now (ws .entry)) j)) ⌝ }
 {
     low(marks(ws, i)) == low(marks(ws, j))
 }
 
-// Whether nodes i and j have the same term, node by node: at once where the same node stands for both, or where their facts differ.
-fn equal(ws: &[u32], i: usize, j: usize) -> bool
-    requires { ⌜ Formed (now ws) (suc i) ⌝ }
-    requires { ⌜ Formed (now ws) (suc j) ⌝ }
+// The number of node i, a constant, tag 0, or a variable, tag 1.
+fn number(ws: &[u32], i: usize, tag: u32) -> u32
+    requires { ⌜ place (suc i) ≤ length (now ws) ⌝ }
+    ensures { λ r. ⌜ r ≡ leafNumber tag (partsAt (now (ws .entry)) i) (valueAt (now (ws .entry)) i) ⌝ }
+{
+    if tag == 0 {
+        return value(ws, i);
+    }
+    parts(ws, i)
+}
+
+// Whether nodes i and j have the same term, node by node: at once where the same node stands for both, or where their facts differ. What
+// stands in place of values, but for constants, is not looked at.
+pub fn equal(ws: &[u32], i: usize, j: usize) -> bool
+    requires { ⌜ Shaped (now ws) (suc i) ⌝ }
+    requires { ⌜ Shaped (now ws) (suc j) ⌝ }
     ensures { λ r. ⌜ r ≡ eqTerm (termAt (now (ws .entry)) i) (termAt (now (ws .entry)) j) ⌝ }
 {
     if twins(ws, i, j) {
@@ -316,33 +418,19 @@ fn equal(ws: &[u32], i: usize, j: usize) -> bool
     if !alike(ws, i, j) {
         return false;
     }
-    let other = view(ws, j);
-    match view(ws, i) {
-        Node::Constant(m) => match other {
-            Node::Constant(n) => m == n,
-            _ => false,
-        },
-        Node::Variable(m) => match other {
-            Node::Variable(n) => m == n,
-            _ => false,
-        },
-        Node::Sum(a, b) => match other {
-            Node::Sum(c, d) => if equal(ws, a, c) {
-                equal(ws, b, d)
-            } else {
-                false
-            },
-            _ => false,
-        },
-        Node::Difference(a, b) => match other {
-            Node::Difference(c, d) => if equal(ws, a, c) {
-                equal(ws, b, d)
-            } else {
-                false
-            },
-            _ => false,
-        },
+    let tag = tag(ws, i);
+    if tag < 2 {
+        return number(ws, i, tag) == number(ws, j, tag);
     }
+    if !equal(ws, first(ws, i), first(ws, j)) {
+        return false;
+    }
+    let a = second(ws, i);
+    let b = second(ws, j);
+    if 4 < tag {
+        return a == b;
+    }
+    equal(ws, a, b)
 }
 
 // Whether nodes i and j have the same term.
@@ -357,16 +445,44 @@ pub fn same(ws: &[u32], i: usize, j: usize) -> bool
     equal(ws, i, j)
 }
 
-// The value of node i's term where it has no variable.
+// The value of node i's term, every variable being 0.
+fn reduced(ws: &[u32], i: usize) -> u32
+    requires { ⌜ Formed (now ws) (suc i) ⌝ }
+    ensures { λ r. ⌜ r ≡ eval (λ v. 0) (termAt (now (ws .entry)) i) ⌝ }
+{
+    if holds_value(ws, i) {
+        return value(ws, i);
+    }
+    let tag = tag(ws, i);
+    if tag < 2 {
+        return 0;
+    }
+    let a = reduced(ws, first(ws, i));
+    let other = second(ws, i);
+    if 4 < tag {
+        return fields::shift(a, other as u32);
+    }
+    applied(tag, a, reduced(ws, other))
+}
+
+// The value of node i's term where it has no variable: at once where it is kept.
 pub fn evaluate(ws: &[u32], i: usize) -> Closed
     requires { ⌜ Formed (now ws) (suc i) ⌝ }
     ensures { λ r. ⌜ r ≡ closedValue (termAt (now (ws .entry)) i) ⌝ }
 {
     if is_closed(marks(ws, i)) == 1 {
-        Closed::Value(value(ws, i))
+        Closed::Value(reduced(ws, i))
     } else {
         Closed::Open
     }
+}
+
+// Whether no mask or shift stands in node i's term.
+pub fn plain(ws: &[u32], i: usize) -> bool
+    requires { ⌜ Formed (now ws) (suc i) ⌝ }
+    ensures { λ r. ⌜ r ≡ isPlain (termAt (now (ws .entry)) i) ⌝ }
+{
+    is_plain(marks(ws, i)) == 1
 }
 
 // Whether node i's term has at most so many nodes, below the cap.

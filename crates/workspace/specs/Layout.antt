@@ -34,12 +34,13 @@ mostAssumptions = mostAtoms + pathRoom
 abbrev pub tableBase : ℕ
 tableBase = assumptionBase + mostAssumptions
 
--- at the end: the hints, which say where a node with certain words may be found; nothing is promised of them
-abbrev pub hints : ℕ
-hints = 1024
+-- at the end: hints, of which nothing is promised. Notes, two a word: for each node one that may have the same term; and words that say where
+-- a node with certain words may be found
+abbrev pub noteWords : ℕ
+noteWords = 1968
 
 abbrev pub hintBase : ℕ
-hintBase = leastWorkspace - hints
+hintBase = leastWorkspace - 1024 - noteWords
 
 abbrev pub mostTableNodes : ℕ
 mostTableNodes = (hintBase - tableBase) / 3

@@ -24,11 +24,13 @@ pub const ASSUMPTIONS: usize = AREA_WORDS + PATH_ROOM;
 // tableBase: where the term table begins.
 pub const TABLE: usize = ASSUMPTIONS + MOST_ATOMS + PATH_ROOM;
 
-// hints: how many hints there are.
+// Where the words begin that say where a node may be found, and how many there are.
 pub const HINT_COUNT: usize = 1024;
 
-// hintBase: where the hints begin.
 pub const HINTS: usize = LEAST_WORKSPACE - HINT_COUNT;
+
+// hintBase: where the notes of nodes begin.
+pub const NOTES: usize = HINTS - 1968;
 
 // Makes every word zero.
 pub fn clear(words: &mut [u32])

@@ -10,7 +10,7 @@ use std::time::Duration;
 
 use generator::assemble::{package, Instruction, Policy, Region, READ, WRITE};
 use generator::random::Random;
-use generator::routine::sample;
+use generator::routine::{plain_sample, sample, Sample};
 use generator::worst::worst_cases;
 
 /// How long one measurement should take at least, by as many calls as that needs.
@@ -60,15 +60,15 @@ fn checks() -> Vec<Check> {
     };
     let policy = plain_policy(1, 1).encode();
     add("accepted: a return", &policy, &package(&[Instruction::Return], 0, &[], &[2]));
-    let mut workspace = vec![0; reference::WORKSPACE_WORDS];
     for segments in [1, 2, 4, 8, 12, 16, 20, 24] {
-        let mut random = Random::new(segments as u64);
-        let accepted = (0..200).map(|_| sample(&mut random, segments)).find(|sample| {
-            let (policy, package) = (sample.policy_bytes(), sample.package_bytes());
-            reference::check(&mut workspace, &policy, &package).number == 0
-        });
-        if let Some(sample) = accepted {
+        if let Some(sample) = accepted(plain_sample, segments) {
             let name = format!("accepted: random routine, segments: {segments}");
+            add(&name, &sample.policy_bytes(), &sample.package_bytes());
+        }
+    }
+    for segments in [1, 4, 12, 24] {
+        if let Some(sample) = accepted(sample, segments) {
+            let name = format!("accepted: with masks and shifts, segments: {segments}");
             add(&name, &sample.policy_bytes(), &sample.package_bytes());
         }
     }
@@ -82,9 +82,19 @@ fn checks() -> Vec<Check> {
     add("refused: short header", &policy, &long[..11]);
     add("refused: length", &policy, &long[..60_000]);
     let mut wrong = long.clone();
-    wrong[12 + 4 * 255] = 10;
+    wrong[12 + 4 * 255] = 12;
     add("refused: last instruction", &policy, &wrong);
     inputs
+}
+
+/// The first of some random routines that is accepted.
+fn accepted(make: fn(&mut Random, usize) -> Sample, segments: usize) -> Option<Sample> {
+    let mut random = Random::new(segments as u64);
+    let mut workspace = vec![0; reference::WORKSPACE_WORDS];
+    (0..200).map(|_| make(&mut random, segments)).find(|sample| {
+        let (policy, package) = (sample.policy_bytes(), sample.package_bytes());
+        reference::check(&mut workspace, &policy, &package).number == 0
+    })
 }
 
 fn plain_policy(memory: u32, regions: usize) -> Policy {
@@ -201,8 +211,15 @@ fn runs() -> Vec<Run> {
         Instruction::Add { d: 2, a: 2, b: 0 },
         Instruction::Store { d: 2, a: 6, i: 63 },
     ];
+    let fields = [
+        Instruction::Mask { d: 2, a: 0, i: 255 },
+        Instruction::Shift { d: 3, a: 0, i: 8 },
+        Instruction::Mask { d: 4, a: 3, i: 0xff00_ff00 },
+        Instruction::Shift { d: 5, a: 4, i: 31 },
+    ];
     for rounds in [10, 1_000, 200_000] {
         add(&format!("arithmetic, {rounds} rounds"), &small, &counting(&arithmetic), rounds);
+        add(&format!("masks and shifts, {rounds} rounds"), &small, &counting(&fields), rounds);
         add(&format!("memory, {rounds} rounds"), &small, &counting(&accesses), rounds);
     }
     // the word is only in the last of eight regions

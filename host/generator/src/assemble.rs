@@ -69,6 +69,8 @@ pub enum Instruction {
     JumpIfLess { a: u8, b: u8, target: u32 },
     JumpIfEqual { a: u8, b: u8, target: u32 },
     Return,
+    Mask { d: u8, a: u8, i: u32 },
+    Shift { d: u8, a: u8, i: u32 },
 }
 
 impl Instruction {
@@ -85,6 +87,8 @@ impl Instruction {
             Instruction::JumpIfLess { a, b, target } => ([7, 0, a, b], target),
             Instruction::JumpIfEqual { a, b, target } => ([8, 0, a, b], target),
             Instruction::Return => ([9, 0, 0, 0], 0),
+            Instruction::Mask { d, a, i } => ([10, d, a, 0], i),
+            Instruction::Shift { d, a, i } => ([11, d, a, 0], i),
         }
     }
 

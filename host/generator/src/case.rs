@@ -127,7 +127,7 @@ impl Iterator for Cases {
 /// Random bytes, some with the header of a package.
 fn noise(random: &mut Random) -> Vec<u8> {
     let length = random.below(200);
-    let bytes: Vec<u8> = (0..length).map(|_| random.byte() % 28).collect();
+    let bytes: Vec<u8> = (0..length).map(|_| random.byte() % 30).collect();
     if random.chance(1, 2) {
         return bytes;
     }
@@ -145,7 +145,7 @@ fn random_code(policy: &Policy, random: &mut Random) -> Vec<u8> {
                 _ => random.below(policy.memory as usize + 1) as u32,
             };
             let target = random.below(count) as u32;
-            match random.below(12) {
+            match random.below(14) {
                 0 | 1 => Instruction::Constant { d, i },
                 2 => Instruction::Add { d, a, b },
                 3 => Instruction::AddConstant { d, a, i },
@@ -154,6 +154,8 @@ fn random_code(policy: &Policy, random: &mut Random) -> Vec<u8> {
                 7 | 8 => Instruction::Store { d, a, i },
                 9 => Instruction::Jump { target },
                 10 => Instruction::JumpIfLess { a, b, target },
+                11 => Instruction::Mask { d, a, i },
+                12 => Instruction::Shift { d, a, i: random.below(32) as u32 },
                 _ if random.chance(1, 3) => Instruction::Return,
                 _ => Instruction::JumpIfEqual { a, b, target },
             }
@@ -242,13 +244,16 @@ fn read_term(bytes: &[u8], depth: u32) -> Option<(Term, &[u8])> {
             let (number, rest) = rest.split_first_chunk()?;
             Some((Term::Variable(u16::from_le_bytes(*number)), rest))
         }
-        2 | 3 => {
+        2..=4 => {
             let (left, rest) = read_term(rest, depth.checked_sub(1)?)?;
             let (right, rest) = read_term(rest, depth - 1)?;
-            let (left, right) = (left.into(), right.into());
-            let term =
-                if tag == 2 { Term::Sum(left, right) } else { Term::Difference(left, right) };
-            Some((term, rest))
+            let pair = [Term::Sum, Term::Difference, Term::Mask][usize::from(tag) - 2];
+            Some((pair(left.into(), right.into()), rest))
+        }
+        5 => {
+            let (&count, rest) = rest.split_first()?;
+            let (part, rest) = read_term(rest, depth.checked_sub(1)?)?;
+            (count < 32).then(|| (Term::Shift(count, part.into()), rest))
         }
         _ => None,
     }

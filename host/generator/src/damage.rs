@@ -85,14 +85,14 @@ pub fn damaged_package(package: &[u8], random: &mut Random) -> Vec<u8> {
         // another rule
         5 if !derivations.is_empty() => {
             let place = derivations.start + random.below(derivations.len());
-            bytes[place] = random.below(26) as u8;
+            bytes[place] = random.below(29) as u8;
         }
         // an instruction
         6 | 7 => {
             let count = (section - 12) / 8;
             let index = random.below(count);
             let field = random.below(4);
-            bytes[12 + 4 * index + field] = random.below(if field == 0 { 11 } else { 17 }) as u8;
+            bytes[12 + 4 * index + field] = random.below(if field == 0 { 13 } else { 17 }) as u8;
             if random.chance(1, 2) {
                 let immediate = 12 + 4 * count + 4 * index;
                 bytes[immediate..immediate + 4].copy_from_slice(&random.word().to_le_bytes());
@@ -106,7 +106,7 @@ pub fn damaged_package(package: &[u8], random: &mut Random) -> Vec<u8> {
         // bytes put in, taken out, or copied
         9 => {
             let place = section + random.below(package.len() - section + 1);
-            let put_in: Vec<u8> = (0..=random.below(4)).map(|_| random.byte() % 26).collect();
+            let put_in: Vec<u8> = (0..=random.below(4)).map(|_| random.byte() % 29).collect();
             let moved = if place < proof { put_in.len() } else { 0 };
             bytes.splice(place..place, put_in);
             if bytes.len() <= 65_536 {

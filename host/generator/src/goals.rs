@@ -3,7 +3,7 @@
 use std::rc::Rc;
 
 use crate::assemble::{Annotation, Instruction, Policy, Routine};
-use crate::term::{constant, difference, sum, variable, Atom, Goal, Term};
+use crate::term::{constant, difference, mask, shift, sum, variable, Atom, Goal, Term};
 
 /// Where a goal comes from.
 #[derive(Clone, Copy, Debug, PartialEq, Eq)]
@@ -130,6 +130,8 @@ impl<'a> Path<'a> {
                     tasks.push(self.task(goal, Origin::Credit));
                     return Some(());
                 }
+                Instruction::Mask { d, a, i } => self.set(d, mask(self.get(a), &constant(i)))?,
+                Instruction::Shift { d, a, i } => self.set(d, shift(i as u8, self.get(a)))?,
             }
             self.counter += 1;
         }

@@ -1,9 +1,10 @@
-//! Sizes at and just past every limit of document 01.
+//! Sizes at and just past every limit of documents 01 and 02.
 
 use std::rc::Rc;
 
 use crate::assemble::{package, Annotation, Instruction, Policy, Region, Routine, READ, WRITE};
-use crate::term::{constant, sum, variable, Atom, Term};
+use crate::term::{constant, mask, shift, sum, variable, Atom, Term};
+use crate::worst::apart;
 
 /// A named policy and package.
 pub type Named = (String, Vec<u8>, Vec<u8>);
@@ -41,6 +42,8 @@ pub fn hostile_cases() -> Vec<Named> {
     packages(&mut cases);
     annotations(&mut cases);
     expressions(&mut cases);
+    shifted_expressions(&mut cases);
+    deep_terms(&mut cases);
     derivations(&mut cases);
     register_terms(&mut cases);
     cases
@@ -120,15 +123,18 @@ fn packages(cases: &mut Vec<Named>) {
         let bytes = returning(&[3])[..length].to_vec();
         cases.push((format!("header of {length} bytes"), policy.clone(), bytes));
     }
-    for op in 0..=10 {
-        for field in 0..4 {
+    for op in 0..=13 {
+        for field in 0..7 {
             let mut bytes = package(&[Instruction::Return; 2], 0, &[], &[3]);
             bytes[12] = op;
             match field {
                 0 => bytes[13..16].copy_from_slice(&[15, 15, 15]),
                 1 => bytes[14] = 16,
                 2 => bytes[20..24].copy_from_slice(&1u32.to_le_bytes()),
-                _ => bytes[20..24].copy_from_slice(&2u32.to_le_bytes()),
+                3 => bytes[20..24].copy_from_slice(&2u32.to_le_bytes()),
+                4 => bytes[20..24].copy_from_slice(&31u32.to_le_bytes()),
+                5 => bytes[20..24].copy_from_slice(&32u32.to_le_bytes()),
+                _ => bytes[20..24].copy_from_slice(&256u32.to_le_bytes()),
             }
             cases.push((format!("operation {op}, variant {field}"), policy.clone(), bytes));
         }
@@ -203,40 +209,104 @@ fn expressions(cases: &mut Vec<Named>) {
         for leaves in [15, 16, 17] {
             let nodes = 2 * leaves - 1;
             let term = nested(leaves, to_the_left);
-            let name = |part| format!("{part} of {nodes} nodes, left {to_the_left}");
-            let atom = Atom::equal(&term, &term);
-            let with_atoms =
-                Policy { precondition: vec![atom.clone()], postcondition: vec![atom], ..policy() };
-            cases.push((name("policy"), with_atoms.encode(), returning(&[1, 3])));
-
+            in_every_place(&term, &format!("{nodes} nodes, left {to_the_left}"), cases);
             let credit = sum(&term, &constant(0));
-            for credit in [&term, &credit] {
-                let annotations =
-                    vec![Annotation { index: 0, credit: Rc::clone(credit), atoms: Vec::new() }];
-                let routine = Routine { code: vec![Instruction::Return], annotations };
-                cases.push((name("credit"), policy().encode(), routine.encode(&[3; 3])));
-            }
-
-            let mut proof = vec![6];
-            term.encode(&mut proof);
-            proof.extend([3, 3]);
-            cases.push((name("argument"), policy().encode(), returning(&proof)));
+            in_every_place(&credit, &format!("{nodes} nodes and two, left {to_the_left}"), cases);
         }
     }
-    // an even number of nodes cannot be: the 32nd node is met where a part is missing
-    for count in [30, 31, 32, 33] {
-        let mut proof = vec![24];
-        proof.resize(1 + count, 2);
-        cases.push((format!("{count} open sums"), policy().encode(), returning(&proof)));
-        proof.push(0);
-        cases.push((format!("{count} open sums and a tag"), policy().encode(), returning(&proof)));
+    // the 32nd node is met where a part is missing
+    for (name, tag) in [("sums", 2), ("masks", 4)] {
+        for count in [30, 31, 32, 33] {
+            let mut proof = vec![24];
+            proof.resize(1 + count, tag);
+            cases.push((format!("{count} open {name}"), policy().encode(), returning(&proof)));
+            proof.push(0);
+            let name = format!("{count} open {name} and a tag");
+            cases.push((name, policy().encode(), returning(&proof)));
+        }
+    }
+}
+
+/// A term as a side of an atom, as a credit and as an argument.
+fn in_every_place(term: &Rc<Term>, what: &str, cases: &mut Vec<Named>) {
+    let name = |part| format!("{part} of {what}");
+    let atom = Atom::equal(term, term);
+    let with_atoms =
+        Policy { precondition: vec![atom.clone()], postcondition: vec![atom], ..policy() };
+    cases.push((name("policy"), with_atoms.encode(), returning(&[1, 3])));
+
+    let annotations = vec![Annotation { index: 0, credit: Rc::clone(term), atoms: Vec::new() }];
+    let routine = Routine { code: vec![Instruction::Return], annotations };
+    cases.push((name("credit"), policy().encode(), routine.encode(&[3; 3])));
+
+    let mut proof = vec![6];
+    term.encode(&mut proof);
+    proof.extend([3, 3]);
+    cases.push((name("argument"), policy().encode(), returning(&proof)));
+}
+
+/// Even numbers of nodes, and counts that are too large or not there.
+fn shifted_expressions(cases: &mut Vec<Named>) {
+    for (name, bottom) in [("a leaf", nested(1, true)), ("sums", nested(8, false))] {
+        let mut term = bottom;
+        while term.size() < 33 {
+            term = shift((term.size() % 32) as u8, &term);
+            if term.size() >= 30 {
+                in_every_place(&term, &format!("{} nodes, shifts of {name}", term.size()), cases);
+            }
+        }
+    }
+    let masked = mask(&shift(31, &nested(7, true)), &shift(0, &nested(7, false)));
+    in_every_place(&masked, "a mask of two shifts", cases);
+    for count in [0, 1, 30, 31, 32, 33, 64, 128, 255] {
+        in_every_place(&shift(count, &variable(3)), &format!("a shift by {count}"), cases);
+        // the operand unknown, or missing with all that follows
+        for operand in [&[6][..], &[]] {
+            let proof = [&[24, 5, count][..], operand].concat();
+            let name = format!("a shift by {count} of {operand:?}");
+            cases.push((name, policy().encode(), returning(&proof)));
+        }
+    }
+    // a count that is missing or too large at the 31st node and at the 32nd
+    for shifts in [29, 30, 31] {
+        for end in [&[5][..], &[5, 32], &[5, 31]] {
+            let proof = [&[24][..], &[5, 1].repeat(shifts), end].concat();
+            let name = format!("{shifts} open shifts and {end:?}");
+            cases.push((name, policy().encode(), returning(&proof)));
+        }
+    }
+}
+
+/// Terms as deep as they can be, to be evaluated and to be compared.
+fn deep_terms(cases: &mut Vec<Named>) {
+    let shifted = |d, first: &[Instruction], shifts: usize| {
+        let more = vec![Instruction::Shift { d, a: d, i: 0 }; shifts];
+        [first, &more].concat()
+    };
+    let evaluated = shifted(1, &[Instruction::Constant { d: 1, i: 7 }], 254);
+    let compared = [shifted(1, &apart(1), 125), shifted(2, &apart(2), 125)].concat();
+    let deep =
+        |number, first| (0..29).fold(shift(first, &variable(number)), |term, _| shift(0, &term));
+    for (name, code, right, rule) in [
+        ("evaluated", &evaluated, constant(7), 3),
+        ("evaluated, wrong", &evaluated, constant(8), 3),
+        ("compared", &compared, deep(2, 0), 1),
+        ("compared by its linear form", &compared, deep(2, 0), 12),
+        ("compared, wrong", &compared, deep(2, 1), 1),
+        ("compared by its linear form, wrong", &compared, deep(2, 1), 12),
+    ] {
+        let postcondition = vec![Atom::equal(&deep(1, 0), &right)];
+        let policy = Policy { postcondition, ..policy() };
+        let code = [&code[..], &[Instruction::Return]].concat();
+        let bytes = package(&code, 0, &[], &[rule, 3]);
+        cases.push((format!("a deep term {name}"), policy.encode(), bytes));
     }
 }
 
 fn derivations(cases: &mut Vec<Named>) {
     let policy = Policy { limit: 1, ..policy() }.encode();
     for depth in [31, 32, 33, 34] {
-        for end in [&[1u8][..], &[], &[25], &[12, 12]] {
+        for end in [&[1u8][..], &[], &[28], &[12, 12]] {
             let mut proof = vec![10];
             proof.resize(depth - 1, 4);
             proof.extend(end);
@@ -260,6 +330,8 @@ fn register_terms(cases: &mut Vec<Named>) {
     let more = Instruction::AddConstant { d: 1, a: 1, i: 1 };
     let other = Instruction::Subtract { d: 1, a: 1, b: 2 };
     let load = Instruction::Load { d: 2, a: 1, i: 0 };
+    let masked = Instruction::Mask { d: 1, a: 1, i: 255 };
+    let shifted = Instruction::Shift { d: 1, a: 1, i: 31 };
     for (name, code) in [
         ("255 nodes", vec![double; 7]),
         ("511 nodes", vec![double; 8]),
@@ -268,6 +340,14 @@ fn register_terms(cases: &mut Vec<Named>) {
         ("253 and 255 nodes", [vec![double; 6], vec![more; 64]].concat()),
         ("257 nodes in steps", [vec![double; 6], vec![more; 65]].concat()),
         ("address of 257 nodes", [vec![double; 7], vec![load]].concat()),
+        ("256 nodes by a shift", [vec![double; 7], vec![shifted]].concat()),
+        ("257 nodes by a mask", [vec![double; 7], vec![masked]].concat()),
+        ("255 nodes, 128 of them shifts", [vec![double; 6], vec![shifted; 128]].concat()),
+        ("256 nodes, 129 of them shifts", [vec![double; 6], vec![shifted; 129]].concat()),
+        ("255 nodes by masks", vec![masked; 127]),
+        ("257 nodes by masks", vec![masked; 128]),
+        ("255 nodes by shifts", vec![shifted; 254]),
+        ("256 nodes by shifts", vec![shifted; 255]),
     ] {
         let code = [code, vec![Instruction::Return]].concat();
         for proof in [&[3][..], &[22, 0, 13, 24, 1, 0, 0, 0, 0, 0, 3], &[]] {

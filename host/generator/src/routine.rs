@@ -11,7 +11,7 @@ use crate::assemble::{Annotation, Instruction, Policy, Region, Routine, READ, WR
 use crate::goals::{goals, Origin};
 use crate::random::Random;
 use crate::search::search_all;
-use crate::term::{balanced_sum, constant, difference, sum, variable};
+use crate::term::{balanced_sum, constant, difference, mask, shift, sum, variable};
 use crate::term::{Atom, Comparison, Term};
 
 const REGISTERS: u8 = 16;
@@ -46,8 +46,17 @@ impl Sample {
 
 /// A random sample of about so many segments.
 pub fn sample(random: &mut Random, segments: usize) -> Sample {
+    sample_with(random, segments, true)
+}
+
+/// A random sample of about so many segments, without masks and shifts.
+pub fn plain_sample(random: &mut Random, segments: usize) -> Sample {
+    sample_with(random, segments, false)
+}
+
+fn sample_with(random: &mut Random, segments: usize, fields: bool) -> Sample {
     loop {
-        let mut builder = Builder::new(random);
+        let mut builder = Builder::new(random, fields);
         builder.segments(segments, 2);
         let (mut policy, mut routine) = builder.finish();
         if let Some((proof, proved)) = prove(&mut policy, &mut routine, random) {
@@ -85,7 +94,7 @@ fn prove(
                     Some(derivation) => proof.extend(derivation.bytes),
                     None => {
                         proved = false;
-                        proof.push(random.below(25) as u8);
+                        proof.push(random.below(28) as u8);
                     }
                 }
             }
@@ -122,6 +131,8 @@ struct Note {
 
 struct Builder<'a> {
     random: &'a mut Random,
+    /// Whether there are masks and shifts.
+    fields: bool,
     memory: u32,
     regions: Vec<Region>,
     precondition: Vec<Atom>,
@@ -144,7 +155,7 @@ fn register(number: u8) -> Rc<Term> {
 }
 
 impl<'a> Builder<'a> {
-    fn new(random: &'a mut Random) -> Self {
+    fn new(random: &'a mut Random, fields: bool) -> Self {
         let memory = match random.below(5) {
             0 => random.within(1..=4),
             1 => random.within(1_000..=16_384),
@@ -159,6 +170,7 @@ impl<'a> Builder<'a> {
         }
         let mut builder = Builder {
             random,
+            fields,
             memory,
             regions,
             precondition: Vec::new(),
@@ -180,7 +192,7 @@ impl<'a> Builder<'a> {
             let d = self.any_register();
             let bound = self.random.word();
             let term = register(d);
-            let atom = match self.random.below(6) {
+            let atom = match self.random.below(if self.fields { 7 } else { 6 }) {
                 0 | 1 => {
                     self.ranges[usize::from(d)] = Some((0, bound));
                     Atom::at_most(&term, &constant(bound))
@@ -191,9 +203,13 @@ impl<'a> Builder<'a> {
                 }
                 3 => Atom::less(&term, &register(self.any_register())),
                 4 => Atom::unequal(&constant(bound), &term),
-                _ => {
+                5 => {
                     let other = register(self.any_register());
                     Atom::equal(&term, &sum(&other, &constant(bound)))
+                }
+                _ => {
+                    let field = self.field(&term);
+                    Atom::at_most(&field, &constant(bound))
                 }
             };
             self.precondition.push(atom);
@@ -205,6 +221,7 @@ impl<'a> Builder<'a> {
         let mut postcondition: Vec<Atom> = Vec::new();
         let mut candidates = self.facts.clone();
         candidates.extend(self.range_facts());
+        candidates.extend(self.fields.then(|| self.field_fact()));
         self.random.shuffle(&mut candidates);
         postcondition.extend(candidates.into_iter().take(self.random.below(6)));
         self.emit(Instruction::Return);
@@ -304,6 +321,15 @@ impl<'a> Builder<'a> {
                 self.assign(d, bounds, term);
             }
             Instruction::Load { d, .. } => self.assign(d, None, None),
+            Instruction::Mask { d, a, i } => {
+                let term = (d != a).then(|| mask(&register(a), &constant(i)));
+                self.assign(d, Some((0, i)), term);
+            }
+            Instruction::Shift { d, a, i } => {
+                let most = range(a).map_or(u32::MAX, |(_, high)| high).min(u32::MAX >> i);
+                let term = (d != a).then(|| shift(i as u8, &register(a)));
+                self.assign(d, Some((0, most)), term);
+            }
             _ => {}
         }
     }
@@ -343,14 +369,51 @@ impl<'a> Builder<'a> {
         let Some(d) = self.free_register() else { return };
         let (a, b) = (self.any_register(), self.any_register());
         let i = self.random.word();
-        let instruction = match self.random.below(6) {
+        let instruction = match self.random.below(if self.fields { 9 } else { 6 }) {
             0 | 1 => Instruction::Constant { d, i },
             2 => Instruction::Add { d, a, b },
             3 => Instruction::AddConstant { d, a, i },
             4 => Instruction::AddConstant { d, a: d, i: i % 7 },
-            _ => Instruction::Subtract { d, a, b },
+            5 => Instruction::Subtract { d, a, b },
+            6 => Instruction::Mask { d, a, i },
+            7 => Instruction::Mask { d, a, i: self.low_bits() },
+            _ => Instruction::Shift { d, a, i: self.random.within(0..=31) },
         };
         self.emit(instruction);
+    }
+
+    /// A word whose ones are its lowest bits.
+    fn low_bits(&mut self) -> u32 {
+        u32::MAX >> self.random.within(0..=31)
+    }
+
+    /// A part of a term's bits: it masked, shifted, or both.
+    fn field(&mut self, term: &Rc<Term>) -> Rc<Term> {
+        let masked = mask(term, &constant(self.low_bits()));
+        let count = self.random.below(32) as u8;
+        match self.random.below(4) {
+            0 | 1 => masked,
+            2 => shift(count, term),
+            _ => shift(count, &masked),
+        }
+    }
+
+    /// What is true of the bits of any register.
+    fn field_fact(&mut self) -> Atom {
+        let term = register(self.any_register());
+        let field = self.field(&term);
+        let other = register(self.any_register());
+        match (&*field, self.random.below(3)) {
+            (Term::Mask(_, second), 0) => Atom::at_most(&field, second),
+            (Term::Shift(_, part), 0) => Atom::at_most(&field, part),
+            (Term::Shift(count, _), 1) => Atom::at_most(&field, &constant(u32::MAX >> count)),
+            (_, 1) => Atom::at_most(&mask(&term, &other), &other),
+            _ => {
+                let sums = [sum(&term, &other), sum(&other, &term)];
+                let [left, right] = sums.map(|sum| mask(&sum, &constant(255)));
+                Atom::equal(&left, &right)
+            }
+        }
     }
 
     /// A load or a store at an address that is known to be in a region.
@@ -445,6 +508,9 @@ impl<'a> Builder<'a> {
         }
         let mut candidates = self.facts.clone();
         candidates.extend(self.range_facts());
+        if self.fields {
+            candidates.extend((0..self.random.below(3)).map(|_| self.field_fact()));
+        }
         self.random.shuffle(&mut candidates);
         let most = 16 - self.needed.len().min(16);
         let count = self.random.below(most + 1).max(self.random.below(most + 1));

@@ -1,5 +1,5 @@
-//! A small search for derivations: assumptions, evaluation, linear forms, bounds of sums and
-//! differences, chains, and contradictions. Where several derivations are at hand it picks one.
+//! A small search for derivations: assumptions, evaluation, linear forms, bounds of sums,
+//! differences, masks and shifts, chains, and contradictions. Where several derivations are at hand it picks one.
 
 use std::collections::HashMap;
 use std::rc::Rc;
@@ -8,7 +8,7 @@ use crate::assemble::{Region, READ, WRITE};
 use crate::derivation::{assumption, by_way_of, region, rule, Derivation, MAX_DEPTH, MAX_NODES};
 use crate::goals::Task;
 use crate::random::Random;
-use crate::term::{balanced_sum, compare, constant, difference, sum, variable};
+use crate::term::{balanced_sum, compare, constant, difference, sum};
 use crate::term::{Atom, Comparison, Form, Goal, Term};
 
 use Comparison::{AtMost, Equal, Less, Unequal};
@@ -317,8 +317,15 @@ impl<'a> Search<'a> {
             let linear = rule(12, &[]);
             found.push(if *comparison == Equal { linear } else { rule(10, &[&linear]) });
         }
-        if *comparison == AtMost && **left == Term::Constant(0) {
-            found.push(rule(13, &[]));
+        if *comparison == AtMost {
+            let by_form = match (&**left, &**right) {
+                (Term::Constant(0), _) => Some(13),
+                (Term::Mask(_, second), _) if second == right => Some(25),
+                (Term::Shift(_, part), _) if part == right => Some(26),
+                (Term::Shift(count, _), Term::Constant(c)) if *c == u32::MAX >> count => Some(27),
+                _ => None,
+            };
+            found.extend(by_form.map(|number| rule(number, &[])));
         }
         if found.is_empty() {
             return Ok(None);
@@ -337,14 +344,22 @@ impl<'a> Search<'a> {
             return Some(found);
         }
         // Part by part.
-        if let (Term::Sum(a, b), Term::Sum(c, d))
-        | (Term::Difference(a, b), Term::Difference(c, d)) = (&**a, &**b)
-        {
-            if let Some(left) = self.equal(a, c, effort) {
-                if let Some(right) = self.equal(b, d, effort) {
-                    return Some(rule(11, &[&left, &right]));
+        match (&**a, &**b) {
+            (Term::Sum(a, b), Term::Sum(c, d))
+            | (Term::Difference(a, b), Term::Difference(c, d))
+            | (Term::Mask(a, b), Term::Mask(c, d)) => {
+                if let Some(left) = self.equal(a, c, effort) {
+                    if let Some(right) = self.equal(b, d, effort) {
+                        return Some(rule(11, &[&left, &right]));
+                    }
                 }
             }
+            (Term::Shift(count, a), Term::Shift(same, b)) if count == same => {
+                if let Some(part) = self.equal(a, b, effort) {
+                    return Some(rule(11, &[&part]));
+                }
+            }
+            _ => {}
         }
         if effort == 0 {
             return None;
@@ -388,7 +403,6 @@ impl<'a> Search<'a> {
 
     fn rewritten_part(&mut self, term: &Rc<Term>) -> (Rc<Term>, Derivation) {
         match &**term {
-            Term::Constant(_) => (Rc::clone(term), rule(1, &[])),
             Term::Variable(_) => {
                 for fact in &*self.facts {
                     if let Atom { comparison: Equal, left, right } = &fact.atom {
@@ -402,17 +416,18 @@ impl<'a> Search<'a> {
                 }
                 (Rc::clone(term), rule(1, &[]))
             }
-            Term::Sum(left, right) | Term::Difference(left, right) => {
-                let (left, first) = self.rewritten_part(left);
-                let (right, second) = self.rewritten_part(right);
-                let replaced = match **term {
-                    Term::Sum(..) => sum(&left, &right),
-                    _ => difference(&left, &right),
-                };
+            _ => {
+                let mut derivations = Vec::new();
+                let replaced = term.with_parts(&mut |part| {
+                    let (part, derivation) = self.rewritten_part(part);
+                    derivations.push(derivation);
+                    part
+                });
                 if replaced == *term {
                     (replaced, rule(1, &[]))
                 } else {
-                    (replaced, rule(11, &[&first, &second]))
+                    let premises: Vec<&Derivation> = derivations.iter().collect();
+                    (replaced, rule(11, &premises))
                 }
             }
         }
@@ -611,7 +626,7 @@ impl<'a> Search<'a> {
         None
     }
 
-    /// Rules 14, 15, 16 and 18, as the two terms have it.
+    /// Rules 14, 15, 16, 18, 25 and 26, as the two terms have it.
     fn at_most_by_parts(&mut self, a: &Rc<Term>, b: &Rc<Term>, effort: u32) -> Option<Derivation> {
         if let (Term::Sum(x, y), Term::Sum(c, d)) = (&**a, &**b) {
             let derivations = self.at_most(x, c, effort - 1).and_then(|first| {
@@ -647,7 +662,9 @@ impl<'a> Search<'a> {
                 return Some(rule(18, &[&derivation]));
             }
         }
-        None
+        let (above, number) = above(a)?;
+        let rest = self.at_most(above, b, effort - 1)?;
+        by_way_of(6, above, &[&rule(number, &[]), &rest])
     }
 
     /// The least upper bound that is found.
@@ -701,7 +718,19 @@ impl<'a> Search<'a> {
             Term::Difference(left, right) => {
                 found.extend(self.upper_of_difference(left, right, effort));
             }
+            Term::Shift(count, _) => {
+                found.extend(Bound::new(&constant(u32::MAX >> count), rule(27, &[])));
+            }
             _ => {}
+        }
+        if let Some((above, number)) = above(term) {
+            found.extend(self.upper(above, effort).and_then(|bound| {
+                if above.value().is_some() {
+                    return Bound::new(above, rule(number, &[]));
+                }
+                let step = rule(number, &[]);
+                Bound::new(&bound.term, by_way_of(6, above, &[&step, &bound.derivation])?)
+            }));
         }
         for simple in simpler(term) {
             found.extend(self.upper(&simple, effort).and_then(|bound| {
@@ -866,6 +895,15 @@ impl<'a> Search<'a> {
     }
 }
 
+/// The part of a masked or shifted term that it is at most, and the rule that says so.
+fn above(term: &Term) -> Option<(&Rc<Term>, u8)> {
+    match term {
+        Term::Mask(_, second) => Some((second, 25)),
+        Term::Shift(_, part) => Some((part, 26)),
+        _ => None,
+    }
+}
+
 /// Terms that the linear form of a term stands for, smaller than the term if it has more than
 /// three nodes.
 fn simpler(term: &Rc<Term>) -> Vec<Rc<Term>> {
@@ -893,7 +931,7 @@ fn written_out(term: &Rc<Term>) -> Vec<Rc<Term>> {
     let Form { constant: value, coefficients } = term.form();
     let mut plus: Vec<Rc<Term>> = Vec::new();
     let mut minus: Vec<Rc<Term>> = Vec::new();
-    for (number, coefficient) in coefficients {
+    for (indeterminate, coefficient) in coefficients {
         let (side, times) = if coefficient < 1 << 31 {
             (&mut plus, coefficient)
         } else {
@@ -902,7 +940,7 @@ fn written_out(term: &Rc<Term>) -> Vec<Rc<Term>> {
         if times as usize > MAX_NODES {
             return Vec::new();
         }
-        side.extend((0..times).map(|_| variable(number)));
+        side.extend((0..times).map(|_| Rc::clone(&indeterminate)));
     }
     if plus.len() + minus.len() + 1 > MAX_NODES / 2 {
         return Vec::new();

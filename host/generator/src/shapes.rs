@@ -7,7 +7,8 @@ use crate::assemble::{package, Instruction, Policy, Region, READ, WRITE};
 use crate::derivation::MAX_NODES;
 use crate::hostile::Named;
 use crate::random::Random;
-use crate::term::{constant, difference, sum, variable, Atom, Comparison, Term};
+use crate::term::{constant, difference, mask, shift, sum, variable};
+use crate::term::{Atom, Comparison, Term};
 
 use Comparison::{AtMost, Equal, Less, Unequal};
 
@@ -23,8 +24,9 @@ pub fn shape_case(random: &mut Random) -> Named {
     if random.chance(1, 6) {
         return access_case(random);
     }
-    let rule = [24, 0, 1, 2, 3, 4, 5, 6, 7, 8, 9, 10, 11, 12, 13, 14, 15, 16, 17, 18, 19, 20, 21]
-        [random.below(23)];
+    // rules 22 and 23 need an access
+    let rule =
+        if random.chance(4, 26) { 24 + random.below(4) as u8 } else { random.below(22) as u8 };
     let mut instance = instance(rule, random);
     let mut byte = rule;
     let mut order: Vec<usize> = (0..instance.premises.len()).collect();
@@ -36,7 +38,7 @@ pub fn shape_case(random: &mut Random) -> Named {
         }
         4 => instance.argument = instance.argument.map(|term| changed(&term, random)),
         5 => random.shuffle(&mut order),
-        6 => byte = random.below(26) as u8,
+        6 => byte = random.below(29) as u8,
         _ => {}
     }
     let mut proof = vec![byte];
@@ -86,10 +88,20 @@ fn instance(rule: u8, random: &mut Random) -> Instance {
         8 => through(Atom::less(&a, &c), vec![Atom::at_most(&a, &m), Atom::less(&m, &c)]),
         9 => new(Atom::at_most(&a, &b), vec![Atom::less(&a, &b)]),
         10 => new(Atom::at_most(&a, &b), vec![Atom::equal(&a, &b)]),
+        11 if random.chance(1, 4) => {
+            let count = small_count(random);
+            let other = if random.chance(1, 8) { small_count(random) } else { count };
+            new(Atom::equal(&shift(count, &a), &shift(other, &b)), vec![Atom::equal(&a, &b)])
+        }
         11 => {
-            let pair = if random.chance(1, 2) { sum } else { difference };
+            let pair = random.pick(&[sum, difference, mask]);
             let conclusion = Atom::equal(&pair(&a, &b), &pair(&c, &d));
             new(conclusion, vec![Atom::equal(&a, &c), Atom::equal(&b, &d)])
+        }
+        12 if random.chance(1, 4) => {
+            // right unless there is a mask or a shift, whose value rule 12 does not see
+            let a = a.replaced(&|_| constant(7));
+            new(Atom::equal(&a, &constant(a.value().expect("no variable"))), vec![])
         }
         12 => new(Atom::equal(&a, &rearranged(&a, random)), vec![]),
         13 => new(Atom::at_most(&constant(0), &a), vec![]),
@@ -114,6 +126,13 @@ fn instance(rule: u8, random: &mut Random) -> Instance {
         19 => new(Atom::less(&a, &b), vec![Atom::at_most(&a, &b), Atom::unequal(&a, &b)]),
         20 => new(Atom::unequal(&a, &b), vec![Atom::less(&a, &b)]),
         21 => new(Atom::unequal(&a, &b), vec![Atom::unequal(&b, &a)]),
+        25 => new(Atom::at_most(&mask(&a, &b), &b), vec![]),
+        26 => new(Atom::at_most(&shift(small_count(random), &a), &a), vec![]),
+        27 => {
+            let count = small_count(random);
+            let bound = u32::MAX >> if random.chance(1, 8) { small_count(random) } else { count };
+            new(Atom::at_most(&shift(count, &a), &constant(bound)), vec![])
+        }
         _ => through(Atom::new(any_comparison(random), &a, &b), vec![Atom::less(&m, &m)]),
     }
 }
@@ -122,11 +141,17 @@ fn any_comparison(random: &mut Random) -> Comparison {
     *random.pick(&[Equal, Unequal, Less, AtMost])
 }
 
+fn small_count(random: &mut Random) -> u8 {
+    *random.pick(&[0, 1, 1, 2, 30, 31])
+}
+
 fn small_term(random: &mut Random, depth: u32) -> Rc<Term> {
-    match random.below(if depth == 0 { 4 } else { 7 }) {
+    match random.below(if depth == 0 { 4 } else { 9 }) {
         0 => constant(*random.pick(&[0, 1, 2, 5, u32::MAX, 0x8000_0000])),
         1..=3 => variable(random.below(4) as u16),
         4 | 5 => sum(&small_term(random, depth - 1), &small_term(random, depth - 1)),
+        6 => mask(&small_term(random, depth - 1), &small_term(random, depth - 1)),
+        7 => shift(small_count(random), &small_term(random, depth - 1)),
         _ => difference(&small_term(random, depth - 1), &small_term(random, depth - 1)),
     }
 }
@@ -145,16 +170,25 @@ fn rearranged(term: &Rc<Term>, random: &mut Random) -> Rc<Term> {
 
 /// A term that is nearly the same: another form of the same value, or another value.
 fn changed(term: &Rc<Term>, random: &mut Random) -> Rc<Term> {
-    if let Term::Sum(left, right) | Term::Difference(left, right) = &**term {
-        let pair = if matches!(**term, Term::Sum(..)) { sum } else { difference };
-        match random.below(5) {
-            0 => return pair(right, left),
-            1 => return pair(&changed(left, random), right),
-            2 => return pair(left, &changed(right, random)),
-            3 if matches!(**term, Term::Sum(..)) => return difference(left, right),
-            3 => return sum(left, right),
-            _ => {}
+    match (&**term, random.below(5)) {
+        (Term::Sum(left, right), 0) => return sum(right, left),
+        (Term::Difference(left, right), 0) => return difference(right, left),
+        (Term::Mask(left, right), 0) => return mask(right, left),
+        (Term::Shift(count, part), 0) => return shift((count + 1) % 32, part),
+        (Term::Sum(left, right) | Term::Mask(left, right), 1) => return difference(left, right),
+        (Term::Difference(left, right), 1) => return sum(left, right),
+        (Term::Shift(count, part), 1) => return mask(part, &constant(u32::MAX >> count)),
+        (Term::Sum(..) | Term::Difference(..) | Term::Mask(..), choice @ (2 | 3)) => {
+            // the left part or the right
+            let mut left = choice == 2;
+            return term.with_parts(&mut |part| {
+                let changed = if left { changed(part, random) } else { Rc::clone(part) };
+                left = !left;
+                changed
+            });
         }
+        (Term::Shift(..), 2 | 3) => return term.with_parts(&mut |part| changed(part, random)),
+        _ => {}
     }
     let changed = match (&**term, random.below(4)) {
         (Term::Constant(value), 0) => constant(value.wrapping_add(1)),
@@ -162,6 +196,7 @@ fn changed(term: &Rc<Term>, random: &mut Random) -> Rc<Term> {
         (Term::Constant(value), 2) => difference(&constant(value.wrapping_add(5)), &constant(5)),
         (Term::Variable(number), 0) => variable((number + 1) % 4),
         (Term::Variable(_), 1) => constant(1),
+        (Term::Mask(..) | Term::Shift(..), 0 | 1) => constant(term.value().unwrap_or(1)),
         (_, 2) => sum(term, &constant(0)),
         _ => rearranged(term, random),
     };

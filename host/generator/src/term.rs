@@ -4,7 +4,7 @@ use std::collections::BTreeMap;
 use std::rc::Rc;
 
 /// A term, and an expression where its variables are registers.
-#[derive(Clone, Debug, PartialEq, Eq)]
+#[derive(Clone, Debug, PartialEq, Eq, PartialOrd, Ord)]
 pub enum Term {
     /// A constant.
     Constant(u32),
@@ -14,9 +14,13 @@ pub enum Term {
     Sum(Rc<Term>, Rc<Term>),
     /// A difference modulo 2^32.
     Difference(Rc<Term>, Rc<Term>),
+    /// The one masked with the other bit by bit.
+    Mask(Rc<Term>, Rc<Term>),
+    /// A term shifted right by 0 to 31 bits.
+    Shift(u8, Rc<Term>),
 }
 
-use Term::{Constant, Difference, Sum, Variable};
+use Term::{Constant, Difference, Mask, Shift, Sum, Variable};
 
 /// A constant.
 pub fn constant(value: u32) -> Rc<Term> {
@@ -38,87 +42,118 @@ pub fn difference(left: &Rc<Term>, right: &Rc<Term>) -> Rc<Term> {
     Rc::new(Difference(Rc::clone(left), Rc::clone(right)))
 }
 
+/// A mask.
+pub fn mask(left: &Rc<Term>, right: &Rc<Term>) -> Rc<Term> {
+    Rc::new(Mask(Rc::clone(left), Rc::clone(right)))
+}
+
+/// A shift.
+pub fn shift(count: u8, part: &Rc<Term>) -> Rc<Term> {
+    Rc::new(Shift(count, Rc::clone(part)))
+}
+
 /// The sum of some terms, as flat a tree as can be; nothing if there are none.
 pub fn balanced_sum(terms: &[Rc<Term>]) -> Option<Rc<Term>> {
+    balanced(terms, sum)
+}
+
+/// Some terms put together two by two, as flat a tree as can be; nothing if there are none.
+pub fn balanced(
+    terms: &[Rc<Term>],
+    pair: fn(&Rc<Term>, &Rc<Term>) -> Rc<Term>,
+) -> Option<Rc<Term>> {
     match terms {
         [] => None,
         [term] => Some(Rc::clone(term)),
         _ => {
             let (left, right) = terms.split_at(terms.len() / 2);
-            Some(sum(&balanced_sum(left)?, &balanced_sum(right)?))
+            Some(pair(&balanced(left, pair)?, &balanced(right, pair)?))
         }
     }
 }
 
 impl Term {
+    /// The terms that it is put together from.
+    fn parts(&self) -> impl Iterator<Item = &Rc<Term>> {
+        let parts = match self {
+            Constant(_) | Variable(_) => [None, None],
+            Sum(left, right) | Difference(left, right) | Mask(left, right) => {
+                [Some(left), Some(right)]
+            }
+            Shift(_, part) => [Some(part), None],
+        };
+        parts.into_iter().flatten()
+    }
+
     /// The nodes of the tree.
     pub fn size(&self) -> usize {
-        match self {
-            Constant(_) | Variable(_) => 1,
-            Sum(left, right) | Difference(left, right) => left.size() + right.size() + 1,
-        }
+        1 + self.parts().map(|part| part.size()).sum::<usize>()
     }
 
     /// The value, if there is no variable.
     pub fn value(&self) -> Option<u32> {
-        match self {
-            Constant(value) => Some(*value),
-            Variable(_) => None,
-            Sum(left, right) => Some(left.value()?.wrapping_add(right.value()?)),
-            Difference(left, right) => Some(left.value()?.wrapping_sub(right.value()?)),
-        }
+        self.value_by(&|_| None)
     }
 
     /// The value over registers.
     pub fn value_over(&self, registers: &[u32]) -> u32 {
+        let value = |number| Some(registers.get(usize::from(number)).copied().unwrap_or(0));
+        self.value_by(&value).expect("each variable has a value")
+    }
+
+    /// The value, if each variable that occurs has one.
+    fn value_by(&self, value: &dyn Fn(u16) -> Option<u32>) -> Option<u32> {
         match self {
-            Constant(value) => *value,
-            Variable(number) => registers.get(usize::from(*number)).copied().unwrap_or(0),
-            Sum(left, right) => {
-                left.value_over(registers).wrapping_add(right.value_over(registers))
-            }
+            Constant(value) => Some(*value),
+            Variable(number) => value(*number),
+            Sum(left, right) => Some(left.value_by(value)?.wrapping_add(right.value_by(value)?)),
             Difference(left, right) => {
-                left.value_over(registers).wrapping_sub(right.value_over(registers))
+                Some(left.value_by(value)?.wrapping_sub(right.value_by(value)?))
             }
+            Mask(left, right) => Some(left.value_by(value)? & right.value_by(value)?),
+            Shift(count, part) => Some(part.value_by(value)? >> count),
         }
     }
 
     /// Whether a variable occurs.
     pub fn mentions(&self, number: u16) -> bool {
-        match self {
-            Constant(_) => false,
-            Variable(other) => *other == number,
-            Sum(left, right) | Difference(left, right) => {
-                left.mentions(number) || right.mentions(number)
-            }
-        }
+        *self == Variable(number) || self.parts().any(|part| part.mentions(number))
     }
 
     /// The term with each variable replaced.
     pub fn replaced(self: &Rc<Term>, by: &dyn Fn(u16) -> Rc<Term>) -> Rc<Term> {
         match &**self {
-            Constant(_) => Rc::clone(self),
             Variable(number) => by(*number),
-            Sum(left, right) => sum(&left.replaced(by), &right.replaced(by)),
-            Difference(left, right) => difference(&left.replaced(by), &right.replaced(by)),
+            _ => self.with_parts(&mut |part| part.replaced(by)),
         }
     }
 
-    /// The constant and the coefficients of the variables modulo 2^32.
-    pub fn form(&self) -> Form {
+    /// The term with each of its parts, the left one first, replaced.
+    pub fn with_parts(self: &Rc<Term>, by: &mut dyn FnMut(&Rc<Term>) -> Rc<Term>) -> Rc<Term> {
+        match &**self {
+            Constant(_) | Variable(_) => Rc::clone(self),
+            Sum(left, right) => sum(&by(left), &by(right)),
+            Difference(left, right) => difference(&by(left), &by(right)),
+            Mask(left, right) => mask(&by(left), &by(right)),
+            Shift(count, part) => shift(*count, &by(part)),
+        }
+    }
+
+    /// The constant and the coefficients modulo 2^32.
+    pub fn form(self: &Rc<Term>) -> Form {
         let mut form = Form::default();
         self.weigh(1, &mut form);
         form.coefficients.retain(|_, coefficient| *coefficient != 0);
         form
     }
 
-    fn weigh(&self, weight: u32, form: &mut Form) {
-        match self {
+    fn weigh(self: &Rc<Term>, weight: u32, form: &mut Form) {
+        match &**self {
             Constant(value) => {
                 form.constant = form.constant.wrapping_add(weight.wrapping_mul(*value));
             }
-            Variable(number) => {
-                let coefficient = form.coefficients.entry(*number).or_default();
+            Variable(_) | Mask(..) | Shift(..) => {
+                let coefficient = form.coefficients.entry(Rc::clone(self)).or_default();
                 *coefficient = coefficient.wrapping_add(weight);
             }
             Sum(left, right) => {
@@ -143,16 +178,13 @@ impl Term {
                 bytes.push(1);
                 bytes.extend(number.to_le_bytes());
             }
-            Sum(left, right) => {
-                bytes.push(2);
-                left.encode(bytes);
-                right.encode(bytes);
-            }
-            Difference(left, right) => {
-                bytes.push(3);
-                left.encode(bytes);
-                right.encode(bytes);
-            }
+            Sum(..) => bytes.push(2),
+            Difference(..) => bytes.push(3),
+            Mask(..) => bytes.push(4),
+            Shift(count, _) => bytes.extend([5, *count]),
+        }
+        for part in self.parts() {
+            part.encode(bytes);
         }
     }
 }
@@ -162,8 +194,8 @@ impl Term {
 pub struct Form {
     /// The constant.
     pub constant: u32,
-    /// The coefficients of the variables.
-    pub coefficients: BTreeMap<u16, u32>,
+    /// The coefficients of the variables, and of the masked and shifted terms.
+    pub coefficients: BTreeMap<Rc<Term>, u32>,
 }
 
 /// A comparison.

@@ -3,7 +3,8 @@
 use std::rc::Rc;
 
 use crate::assemble::{Annotation, Instruction, Policy, Region, Routine, READ, WRITE};
-use crate::term::{balanced_sum, constant, difference, sum, variable, Atom, Term};
+use crate::term::{balanced, balanced_sum, constant, difference, mask, shift, sum, variable};
+use crate::term::{Atom, Term};
 
 /// A named policy and package, with the checker's number for them.
 #[derive(Clone, Debug)]
@@ -63,13 +64,7 @@ impl Frame {
             proof.extend([3, 3]);
         }
         proof.extend(self.last.as_deref().unwrap_or(&[2]));
-        let policy = Policy {
-            memory: 64,
-            limit: 1_000_000,
-            regions: vec![Region { base: 0, length: 64, rights: READ | WRITE }],
-            precondition: self.precondition.clone(),
-            postcondition: Vec::new(),
-        };
+        let policy = Policy { precondition: self.precondition.clone(), ..frame_policy() };
         let annotations = vec![Annotation { index: end, credit: constant(1), atoms }];
         let package = Routine { code, annotations }.encode(&proof);
         Worst { name, policy: policy.encode(), package, number }
@@ -78,6 +73,16 @@ impl Frame {
     fn atoms(mut self, count: usize, atom: &Atom, derivation: &[u8]) -> Self {
         self.atoms.extend((0..count).map(|_| (atom.clone(), derivation.to_vec())));
         self
+    }
+}
+
+fn frame_policy() -> Policy {
+    Policy {
+        memory: 64,
+        limit: 1_000_000,
+        regions: vec![Region { base: 0, length: 64, rights: READ | WRITE }],
+        precondition: Vec::new(),
+        postcondition: Vec::new(),
     }
 }
 
@@ -104,6 +109,35 @@ fn doubled(d: u8) -> Vec<Instruction> {
     let mut code = vec![Instruction::Add { d, a: 0, b: 0 }];
     code.resize(7, Instruction::Add { d, a: d, b: d });
     code
+}
+
+/// Sets each of some registers to the same term of 255 nodes over register 0 whose linear form is
+/// zero. The proved checker knows a constant again by a hint, which another constant takes here
+/// between two of them; so it does not know that they are the same but by comparing them.
+fn built_apart(registers: &[u8]) -> Vec<Instruction> {
+    let mut code = Vec::new();
+    for &d in registers {
+        code.extend(apart(d));
+        code.push(Instruction::Subtract { d, a: d, b: d });
+        code.resize(code.len() + 5, Instruction::Add { d, a: d, b: d });
+    }
+    code
+}
+
+/// Sets a register to the sum of register 0 and a constant, new to the proved checker's hints.
+pub(crate) fn apart(d: u8) -> [Instruction; 2] {
+    let i = 1;
+    let taken = (i + 1..).find(|&other| hint(other) == hint(i)).expect("many have the same hint");
+    [Instruction::Constant { d, i: taken }, Instruction::AddConstant { d, a: 0, i }]
+}
+
+/// The number of a constant's hint in the proved checker (crates/terms): constants of one number
+/// take each other's place.
+fn hint(constant: u32) -> u64 {
+    // the facts of a constant: tag 0, closed, without mask or shift, one node
+    let facts = 8 + 16 + 32;
+    let mixed = u64::from(constant) * 60_493 + facts * 9_973;
+    (mixed / 65_536 + mixed) % 1_024
 }
 
 /// A sum of so many leaves, all one register.
@@ -142,7 +176,20 @@ pub fn worst_cases() -> Vec<Worst> {
         accesses(),
         contradiction(),
         wide_chains(),
-        long_arguments(),
+        long_arguments("5: arguments of 31 nodes", &leaves(0, 16)),
+        long_arguments("5: arguments of 30 shifts", &shifts(&register(0))),
+        long_arguments("5: arguments of 15 masks", &masks(0, 16)),
+        annotations_of_shifts(),
+        closed_shifts(),
+        closed_masks(),
+        masked_terms_at_two_nodes(),
+        masked_terms_of_three_nodes(),
+        shifted_terms_of_each_goal(),
+        masked_field(),
+        masks_and_shifts_in_parts(),
+        masks_at_most(),
+        shifts_at_most(),
+        shifts_at_most_constants(),
         full_length_spare_proof(),
         late_refusal(),
     ];
@@ -272,18 +319,19 @@ fn hundreds_of_assumptions() -> Worst {
 fn parts() -> Worst {
     let setup = [doubled(1), doubled(2)].concat();
     let atom = Atom::equal(&leaves(1, 16), &leaves(2, 16));
-    fn derivation(levels: u32, bytes: &mut Vec<u8>) {
-        if levels == 0 {
-            bytes.push(1);
-            return;
-        }
-        bytes.push(11);
-        derivation(levels - 1, bytes);
-        derivation(levels - 1, bytes);
-    }
     let mut bytes = Vec::new();
-    derivation(11, &mut bytes);
+    full_tree(11, 11, 1, &mut bytes);
     Frame { setup, ..Frame::default() }.atoms(1, &atom, &bytes).build("11: down to the leaves", 0)
+}
+
+/// A derivation of so many levels of a rule with two premises, and of another rule below them.
+fn full_tree(rule: u8, levels: u32, end: u8, bytes: &mut Vec<u8>) {
+    if levels == 0 {
+        return bytes.push(end);
+    }
+    bytes.push(rule);
+    full_tree(rule, levels - 1, end, bytes);
+    full_tree(rule, levels - 1, end, bytes);
 }
 
 /// Rules 14, 15 and 18 on sums and differences.
@@ -399,16 +447,257 @@ fn wide_chains() -> Worst {
 }
 
 /// Rule 5 with arguments of 31 nodes.
-fn long_arguments() -> Worst {
-    let m = leaves(0, 16);
+fn long_arguments(name: &'static str, m: &Rc<Term>) -> Worst {
     let mut bytes = Vec::new();
     for _ in 0..31 {
         bytes.push(5);
         m.encode(&mut bytes);
     }
     bytes.extend([1; 32]);
-    let atom = Atom::equal(&m, &m);
-    Frame::default().atoms(1, &atom, &bytes).build("5: arguments of 31 nodes", 0)
+    let atom = Atom::equal(m, m);
+    Frame::default().atoms(1, &atom, &bytes).build(name, 0)
+}
+
+/// 30 shifts of a term.
+fn shifts(term: &Rc<Term>) -> Rc<Term> {
+    (0..30).fold(Rc::clone(term), |term, count| shift(count, &term))
+}
+
+/// Masks of so many leaves, all one register.
+fn masks(number: u16, count: usize) -> Rc<Term> {
+    balanced(&vec![register(number); count], mask).expect("at least one")
+}
+
+/// Annotations of 31 nodes a side, as many as a package holds.
+fn annotations_of_shifts() -> Worst {
+    let m = shifts(&register(0));
+    let atoms = vec![Atom::equal(&m, &m); 15];
+    let mut routine = Routine::default();
+    let mut proof = Vec::new();
+    for index in 0..33 {
+        routine.code.push(Instruction::Shift { d: 0, a: 0, i: 1 });
+        proof.extend([1; 15]);
+        proof.extend([3, 3]);
+        let credit = constant(1_000 - index as u32);
+        routine.annotations.push(Annotation { index, credit, atoms: atoms.clone() });
+    }
+    routine.code.push(Instruction::Return);
+    proof.push(3);
+    let policy = Policy { limit: 1_000, ..frame_policy() }.encode();
+    let package = routine.encode(&proof);
+    Worst { name: "1: annotations of 30 shifts", policy, package, number: 0 }
+}
+
+/// Rule 3 on a < b, six times in each derivation: a < b from a ≤ b and a ≠ b, a ≤ b from a < b,
+/// and so on.
+fn evaluated_again_and_again(
+    setup: Vec<Instruction>,
+    a: Option<Rc<Term>>,
+    b: &Rc<Term>,
+    name: &'static str,
+) -> Worst {
+    let atom = Atom::less(&a.expect("at least one"), b);
+    let derivation = [&[19][..], &[9, 19].repeat(4), &[3; 6]].concat();
+    Frame { setup, ..Frame::default() }.atoms(16, &atom, &derivation).build(name, 0)
+}
+
+/// Rule 3 on sums of shifts: 4,095 nodes, nearly all of which are or hold a shift.
+fn closed_shifts() -> Worst {
+    let mut setup = vec![Instruction::Constant { d: 1, i: 1 }];
+    setup.resize(15, Instruction::Shift { d: 1, a: 1, i: 0 });
+    setup.resize(19, Instruction::Add { d: 1, a: 1, b: 1 });
+    let nothing = balanced_sum(&vec![difference(&register(1), &register(1)); 8]);
+    let name = "3: closed shifts of thousands of nodes";
+    evaluated_again_and_again(setup, nothing, &leaves(1, 16), name)
+}
+
+/// Rule 3 on masks of sums of masks.
+fn closed_masks() -> Worst {
+    let mut setup = vec![
+        Instruction::Constant { d: 1, i: u32::MAX },
+        Instruction::Mask { d: 1, a: 1, i: u32::MAX },
+    ];
+    setup.resize(8, Instruction::Add { d: 1, a: 1, b: 1 });
+    let nothing = balanced(&vec![difference(&register(1), &register(1)); 8], mask);
+    let name = "3: closed masks of thousands of nodes";
+    evaluated_again_and_again(setup, nothing, &masks(1, 16), name)
+}
+
+/// Where [`sums_of_masked_terms`] puts a term before it is added.
+const TERM: u8 = 15;
+
+/// The code that sets ten registers to sums of masked terms: 54 terms in the first five, the same
+/// in the other five, the last first. `masked` sets a register to the term of a number, for the
+/// first time or again.
+fn sums_of_masked_terms(masked: impl Fn(u8, u32, bool) -> Instruction) -> Vec<Instruction> {
+    const PAIRS: u32 = 54;
+    const EACH: u32 = 11;
+    let mut code = Vec::new();
+    for place in 0..2 * PAIRS {
+        let (again, at) = (place >= PAIRS, place % PAIRS);
+        let number = if again { PAIRS - 1 - at } else { at };
+        let total = (at / EACH) as u8 + if again { 5 } else { 0 };
+        if at % EACH == 0 {
+            code.push(masked(total, number, again));
+        } else {
+            code.push(masked(TERM, number, again));
+            code.push(Instruction::Add { d: total, a: total, b: TERM });
+        }
+    }
+    code
+}
+
+/// Rule 12 on registers 0 to 4 less registers 5 to 9, 61 times in each derivation.
+fn cancelled_sums(setup: Vec<Instruction>, name: &'static str) -> Worst {
+    let total = |numbers: std::ops::Range<u16>| {
+        balanced_sum(&numbers.map(register).collect::<Vec<_>>()).expect("at least one")
+    };
+    let nothing = difference(&total(0..5), &total(5..10));
+    let zero = constant(0);
+    let (atom, derivation) = spine(&zero, &nothing, &zero, &[10, 12, 10, 12], &[10, 12]);
+    Frame { setup, ..Frame::default() }.atoms(16, &atom, &derivation).build(name, 0)
+}
+
+/// Rule 12 on 54 masked terms, each at two nodes that the proved checker's hints do not take for
+/// the same: masks of five registers that are the same term of 19 nodes, built apart. To find the
+/// other node of a term is to compare these 19 nodes with those of most others.
+fn masked_terms_at_two_nodes() -> Worst {
+    const FIRST_COPY: u8 = 10;
+    let mut setup = Vec::new();
+    for copy in 0..5 {
+        let d = FIRST_COPY + copy;
+        setup.extend(apart(d));
+        setup.push(Instruction::Shift { d, a: d, i: 1 });
+        setup.resize(setup.len() + 2, Instruction::Add { d, a: d, b: d });
+    }
+    setup.extend(sums_of_masked_terms(|d, number, again| {
+        let copy = (number + u32::from(again)) % 5;
+        Instruction::Mask { d, a: FIRST_COPY + copy as u8, i: number }
+    }));
+    cancelled_sums(setup, "12: masked terms at two nodes each")
+}
+
+/// Rule 12 on 54 masks of register 10 with constants that take each other's hint, each at two nodes.
+fn masked_terms_of_three_nodes() -> Worst {
+    let constants: Vec<u32> =
+        (0..).filter(|&constant| hint(constant) == hint(0)).take(54).collect();
+    let setup = sums_of_masked_terms(|d, number, _| Instruction::Mask {
+        d,
+        a: 10,
+        i: constants[number as usize],
+    });
+    cancelled_sums(setup, "12: masked registers at two nodes each")
+}
+
+/// Rule 12 on seven shifted terms of 256 nodes a side, which are the same and built apart: they
+/// are new nodes in each goal, and differ from each other in the last leaf alone.
+fn shifted_terms_of_each_goal() -> Worst {
+    const COPIES: [u8; 2] = [14, 15];
+    let mut setup = Vec::new();
+    for d in COPIES {
+        // 3 nodes, 4, 6; 13, 14 and so on; 253
+        setup.extend(apart(d));
+        let shifted = Instruction::Shift { d, a: d, i: 1 };
+        setup.extend([shifted, Instruction::AddConstant { d, a: d, i: 1 }]);
+        let doubled = Instruction::Add { d, a: d, b: d };
+        setup.extend([doubled, shifted].repeat(4));
+        setup.push(doubled);
+    }
+    for number in 0..14 {
+        let a = COPIES[usize::from(number) / 7];
+        setup.push(Instruction::AddConstant { d: number, a, i: u32::from(number) % 7 });
+    }
+    let side = |numbers: &mut dyn Iterator<Item = u16>| {
+        let terms: Vec<_> = numbers.map(|number| shift(0, &register(number))).collect();
+        balanced_sum(&terms).expect("at least one")
+    };
+    let atom = Atom::equal(&side(&mut (0..7)), &side(&mut (7..14).rev()));
+    Frame { setup, ..Frame::default() }
+        .atoms(16, &atom, &[12])
+        .build("12: shifted terms new in each goal", 0)
+}
+
+/// Rule 12 on a masked field and a constant, eight times in each derivation.
+fn masked_field() -> Worst {
+    let setup = vec![Instruction::Mask { d: 1, a: 0, i: 255 }];
+    let (field, one) = (register(1), constant(1));
+    let eight = |part| balanced_sum(&vec![part; 8]).expect("at least one");
+    let atom = Atom::equal(&eight(sum(&field, &one)), &eight(sum(&one, &field)));
+    let mut bytes = Vec::new();
+    full_tree(11, 3, 12, &mut bytes);
+    Frame { setup, ..Frame::default() }
+        .atoms(16, &atom, &bytes)
+        .build("12: a masked field and a constant", 0)
+}
+
+/// Rule 11 through masks, sums and shifts down to the leaves.
+fn masks_and_shifts_in_parts() -> Worst {
+    let mut setup = Vec::new();
+    for d in [1, 2] {
+        setup.extend(apart(d));
+        for _ in 0..5 {
+            setup.push(Instruction::Shift { d, a: d, i: 1 });
+            setup.push(Instruction::Add { d, a: d, b: d });
+        }
+    }
+    let atom = Atom::equal(&masks(1, 16), &masks(2, 16));
+    // four masks, then five sums of shifts, then the sum that was built apart
+    fn derivation(masks: u32, shifts: u32, bytes: &mut Vec<u8>) {
+        let parts = match (masks, shifts) {
+            (0, 0) => return bytes.push(1),
+            (0, _) => (0, shifts - 1),
+            _ => (masks - 1, shifts),
+        };
+        bytes.push(11);
+        for _ in 0..2 {
+            bytes.extend((masks == 0).then_some(11));
+            derivation(parts.0, parts.1, bytes);
+        }
+    }
+    let mut bytes = Vec::new();
+    derivation(4, 5, &mut bytes);
+    Frame { setup, ..Frame::default() }
+        .atoms(1, &atom, &bytes)
+        .build("11: masks and shifts down to the leaves", 0)
+}
+
+/// Rule 25, 30 times in each derivation: a masked with b ≤ b', where b and b' are built apart.
+fn masks_at_most() -> Worst {
+    let masked = mask(&register(0), &leaves(1, 7));
+    let (atom, derivation) = spine(&constant(0), &masked, &leaves(2, 7), &[13, 25], &[10, 12]);
+    Frame { setup: built_apart(&[1, 2]), ..Frame::default() }
+        .atoms(16, &atom, &derivation)
+        .build("25: masks with terms of 1,791 nodes", 0)
+}
+
+/// Rule 26, 30 times in each derivation: a shifted ≤ a', where a and a' are built apart.
+fn shifts_at_most() -> Worst {
+    let shifted = shift(1, &leaves(1, 7));
+    let (atom, derivation) = spine(&constant(0), &shifted, &leaves(2, 7), &[13, 26], &[10, 12]);
+    Frame { setup: built_apart(&[1, 2]), ..Frame::default() }
+        .atoms(16, &atom, &derivation)
+        .build("26: shifts of terms of 1,791 nodes", 0)
+}
+
+/// Rule 27 on eight shifts, summed up by rule 14.
+fn shifts_at_most_constants() -> Worst {
+    let each = shift(28, &register(1));
+    let [left, right] = [each, constant(15)].map(|part| balanced_sum(&vec![part; 8]));
+    let atom = Atom::at_most(&left.expect("at least one"), &right.expect("at least one"));
+    fn derivation(levels: u32, bytes: &mut Vec<u8>) {
+        if levels == 0 {
+            return bytes.push(27);
+        }
+        bytes.push(14);
+        derivation(levels - 1, bytes);
+        derivation(levels - 1, bytes);
+        bytes.push(3);
+    }
+    let mut bytes = Vec::new();
+    derivation(3, &mut bytes);
+    Frame { setup: built_apart(&[1]), ..Frame::default() }
+        .atoms(16, &atom, &bytes)
+        .build("27: shifts and constants", 0)
 }
 
 /// A proof that is over with its first byte, in a package of the full length.

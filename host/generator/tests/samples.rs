@@ -2,6 +2,7 @@
 
 use std::collections::BTreeMap;
 
+use generator::assemble::Instruction;
 use generator::case::Cases;
 use generator::goals::goals;
 use generator::random::Random;
@@ -13,6 +14,7 @@ fn proofs_are_accepted() {
     let mut random = Random::new(7);
     let mut workspace = vec![0; reference::WORKSPACE_WORDS];
     let (mut accepted, mut most_goals) = (0, 0);
+    let mut with_fields = [0; 2];
     for number in 0..60 {
         let sample = sample(&mut random, number % 10);
         let (policy, package) = (sample.policy_bytes(), sample.package_bytes());
@@ -22,10 +24,17 @@ fn proofs_are_accepted() {
             assert_eq!((verdict.number, verdict.goals), (0, expected), "sample {number}");
         }
         accepted += usize::from(verdict.number == 0);
+        if verdict.number == 0 {
+            let code = &sample.routine.code;
+            let has = |op: fn(&Instruction) -> bool| usize::from(code.iter().any(op));
+            with_fields[0] += has(|instruction| matches!(instruction, Instruction::Mask { .. }));
+            with_fields[1] += has(|instruction| matches!(instruction, Instruction::Shift { .. }));
+        }
         most_goals = most_goals.max(verdict.goals);
     }
     assert!(accepted >= 30, "{accepted} of 60 accepted");
     assert!(most_goals >= 100, "at most {most_goals} goals");
+    assert!(with_fields.iter().all(|&count| count >= 10), "masks, shifts: {with_fields:?}");
 }
 
 #[test]

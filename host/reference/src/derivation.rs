@@ -1,12 +1,13 @@
 //! Derivations: goals, assumptions and the rules (checks 15 to 18).
 
-use crate::expression::{read_expression, Builder, Comparison, Fault};
+use crate::expression::{read_expression, Builder, Comparison, Fault, Operation};
 use crate::policy::Region;
 use crate::reader::Reader;
 use crate::term::{Shape, Term, Terms};
 use crate::Refusal;
 
 use Comparison::{AtMost, Equal, Less, Unequal};
+use Operation::{Difference, Mask, Sum};
 
 const MAX_DEPTH: u32 = 32;
 
@@ -153,10 +154,12 @@ impl<'a> Prover<'a> {
             11 => {
                 let (left, right) = sides(Equal)?;
                 match (self.terms.shape(left), self.terms.shape(right)) {
-                    (Shape::Sum(a, b), Shape::Sum(c, d))
-                    | (Shape::Difference(a, b), Shape::Difference(c, d)) => {
+                    (Shape::Pair(first, a, b), Shape::Pair(second, c, d)) if first == second => {
                         self.derive_at(level, Goal::new(Equal, a, c))?;
                         self.derive_at(level, Goal::new(Equal, b, d))
+                    }
+                    (Shape::Shift(first, a), Shape::Shift(second, c)) if first == second => {
+                        self.derive_at(level, Goal::new(Equal, a, c))
                     }
                     _ => Err(misfit),
                 }
@@ -172,7 +175,7 @@ impl<'a> Prover<'a> {
             14 => {
                 let (left, right) = sides(AtMost)?;
                 match (self.terms.shape(left), self.terms.shape(right)) {
-                    (Shape::Sum(a, b), Shape::Sum(c, d)) => {
+                    (Shape::Pair(Sum, a, b), Shape::Pair(Sum, c, d)) => {
                         self.derive_at(level, Goal::new(AtMost, a, c))?;
                         self.derive_at(level, Goal::new(AtMost, b, d))?;
                         self.derive_at(level, Goal::new(AtMost, c, right))
@@ -183,7 +186,7 @@ impl<'a> Prover<'a> {
             15 => {
                 let (left, right) = sides(AtMost)?;
                 match (self.terms.shape(left), self.terms.shape(right)) {
-                    (Shape::Difference(a, b), Shape::Difference(c, d)) => {
+                    (Shape::Pair(Difference, a, b), Shape::Pair(Difference, c, d)) => {
                         self.derive_at(level, Goal::new(AtMost, a, c))?;
                         self.derive_at(level, Goal::new(AtMost, d, b))?;
                         self.derive_at(level, Goal::new(AtMost, b, a))
@@ -194,7 +197,7 @@ impl<'a> Prover<'a> {
             16 => {
                 let (left, b) = sides(AtMost)?;
                 match self.terms.shape(left) {
-                    Shape::Sum(a, one) if self.terms.shape(one) == Shape::Constant(1) => {
+                    Shape::Pair(Sum, a, one) if self.terms.shape(one) == Shape::Constant(1) => {
                         self.derive_at(level, Goal::new(Less, a, b))
                     }
                     _ => Err(misfit),
@@ -203,15 +206,15 @@ impl<'a> Prover<'a> {
             17 => {
                 let (a, b) = sides(AtMost)?;
                 let one = self.terms.constant(1);
-                let next = self.terms.sum(b, one);
+                let next = self.terms.pair(Sum, b, one);
                 self.derive_at(level, Goal::new(Less, a, next))
             }
             18 => {
                 let (a, right) = sides(AtMost)?;
                 match self.terms.shape(right) {
-                    Shape::Sum(same, b) if same == a => {
+                    Shape::Pair(Sum, same, b) if same == a => {
                         let largest = self.terms.constant(u32::MAX);
-                        let room = self.terms.difference(largest, b);
+                        let room = self.terms.pair(Difference, largest, b);
                         self.derive_at(level, Goal::new(AtMost, a, room))
                     }
                     _ => Err(misfit),
@@ -246,6 +249,23 @@ impl<'a> Prover<'a> {
             24 => {
                 let m = self.argument()?;
                 self.derive_at(level, Goal::new(Less, m, m))
+            }
+            25 => {
+                let (left, b) = sides(AtMost)?;
+                fit(matches!(self.terms.shape(left), Shape::Pair(Mask, _, second) if second == b))
+            }
+            26 => {
+                let (left, a) = sides(AtMost)?;
+                fit(matches!(self.terms.shape(left), Shape::Shift(_, part) if part == a))
+            }
+            27 => {
+                let (left, c) = sides(AtMost)?;
+                match self.terms.shape(left) {
+                    Shape::Shift(count, _) => {
+                        fit(self.terms.shape(c) == Shape::Constant(u32::MAX >> count))
+                    }
+                    _ => Err(misfit),
+                }
             }
             _ => Err(misfit),
         }

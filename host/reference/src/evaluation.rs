@@ -2,7 +2,7 @@
 //! judgement.
 
 use crate::derivation::{Atom, Goal, Prover};
-use crate::expression::{Builder, Comparison, Expressions, Formula};
+use crate::expression::{Builder, Comparison, Expressions, Formula, Operation};
 use crate::package::{read_code, Annotation, Annotations, Instruction, Layout, Register};
 use crate::policy::Policy;
 use crate::term::{Term, Terms};
@@ -93,26 +93,27 @@ impl Evaluation<'_> {
                     self.set(d, term);
                 }
                 Instruction::Add { d, a, b } => {
-                    let term = self.prover.terms.sum(self.get(a), self.get(b));
+                    let term = self.prover.terms.pair(Operation::Sum, self.get(a), self.get(b));
                     self.set_counted(d, term, index)?;
                 }
                 Instruction::AddConstant { d, a, i } => {
-                    let term = self.address(a, i);
+                    let term = self.with_constant(Operation::Sum, a, i);
                     self.set_counted(d, term, index)?;
                 }
                 Instruction::Subtract { d, a, b } => {
-                    let term = self.prover.terms.difference(self.get(a), self.get(b));
+                    let term =
+                        self.prover.terms.pair(Operation::Difference, self.get(a), self.get(b));
                     self.set_counted(d, term, index)?;
                 }
                 Instruction::Load { d, a, i } => {
-                    let address = self.address(a, i);
+                    let address = self.with_constant(Operation::Sum, a, i);
                     self.derive(Goal::Readable(address))?;
                     let loaded = self.prover.terms.variable(self.prover.variables);
                     self.prover.variables += 1;
                     self.set(d, loaded);
                 }
                 Instruction::Store { d: _, a, i } => {
-                    let address = self.address(a, i);
+                    let address = self.with_constant(Operation::Sum, a, i);
                     self.derive(Goal::Writable(address))?;
                 }
                 Instruction::Jump { target } => return self.jump(target, credit, run + 1),
@@ -129,6 +130,14 @@ impl Evaluation<'_> {
                     self.branch(condition, opposite, target, credit, run + 1)?;
                 }
                 Instruction::Return => return self.finish(credit, run + 1),
+                Instruction::Mask { d, a, i } => {
+                    let term = self.with_constant(Operation::Mask, a, i);
+                    self.set_counted(d, term, index)?;
+                }
+                Instruction::Shift { d, a, count } => {
+                    let term = self.prover.terms.shift(count, self.get(a));
+                    self.set_counted(d, term, index)?;
+                }
             }
         }
         unreachable!("a block ends by the end of the code")
@@ -151,10 +160,10 @@ impl Evaluation<'_> {
         Ok(())
     }
 
-    /// The sum of a register's term and a constant.
-    fn address(&mut self, a: Register, i: u32) -> Term {
+    /// An operation on a register's term and a constant.
+    fn with_constant(&mut self, operation: Operation, a: Register, i: u32) -> Term {
         let constant = self.prover.terms.constant(i);
-        self.prover.terms.sum(self.get(a), constant)
+        self.prover.terms.pair(operation, self.get(a), constant)
     }
 
     /// The taken edge, then on under the opposite condition.
@@ -187,7 +196,7 @@ impl Evaluation<'_> {
         let count = self.prover.terms.count();
         let run = self.derive_run(credit, run)?;
         let next = self.instance(annotations.expressions.tokens(annotation.credit));
-        let left = self.prover.terms.difference(credit, run);
+        let left = self.prover.terms.pair(Operation::Difference, credit, run);
         self.derive(Goal::Atom(Atom::new(Comparison::AtMost, next, left)))?;
         self.prover.terms.forget(count);
         Ok(())

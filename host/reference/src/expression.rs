@@ -5,6 +5,9 @@ use crate::reader::Reader;
 /// The most nodes that an expression may have.
 const MAX_NODES: u32 = 31;
 
+/// The most bits that a word may be shifted by.
+pub const MAX_COUNT: u8 = 31;
+
 /// The number of registers, which are the variables of policies and annotations.
 pub const REGISTERS: u16 = 16;
 
@@ -38,6 +41,25 @@ impl Comparison {
     }
 }
 
+/// An operation on two words.
+#[derive(Clone, Copy, Debug, PartialEq, Eq)]
+pub enum Operation {
+    Sum,
+    Difference,
+    Mask,
+}
+
+impl Operation {
+    /// Its result.
+    pub fn apply(self, left: u32, right: u32) -> u32 {
+        match self {
+            Operation::Sum => left.wrapping_add(right),
+            Operation::Difference => left.wrapping_sub(right),
+            Operation::Mask => left & right,
+        }
+    }
+}
+
 /// What an expression is read into, from the leaves up.
 pub trait Builder {
     /// A part that is read.
@@ -46,10 +68,10 @@ pub trait Builder {
     fn constant(&mut self, value: u32) -> Self::Part;
     /// A variable.
     fn variable(&mut self, number: u16) -> Self::Part;
-    /// A sum.
-    fn sum(&mut self, left: Self::Part, right: Self::Part) -> Self::Part;
-    /// A difference.
-    fn difference(&mut self, left: Self::Part, right: Self::Part) -> Self::Part;
+    /// An operation on two parts.
+    fn pair(&mut self, operation: Operation, left: Self::Part, right: Self::Part) -> Self::Part;
+    /// A part shifted right by 0 to 31 bits.
+    fn shift(&mut self, count: u8, part: Self::Part) -> Self::Part;
 }
 
 /// Reads an expression over the variables below `variables`.
@@ -70,6 +92,11 @@ fn read_node<B: Builder>(
     let place = reader.position();
     let tag = reader.byte().ok_or(Fault::Missing)?;
     *nodes_left = nodes_left.checked_sub(1).ok_or(Fault::Bad(place))?;
+    let mut pair = |operation| {
+        let left = read_node(reader, variables, nodes_left, builder)?;
+        let right = read_node(reader, variables, nodes_left, builder)?;
+        Ok(builder.pair(operation, left, right))
+    };
     match tag {
         0 => {
             let value = reader.word().ok_or(Fault::Missing)?;
@@ -83,10 +110,17 @@ fn read_node<B: Builder>(
             }
             Ok(builder.variable(number))
         }
-        2 | 3 => {
-            let left = read_node(reader, variables, nodes_left, builder)?;
-            let right = read_node(reader, variables, nodes_left, builder)?;
-            Ok(if tag == 2 { builder.sum(left, right) } else { builder.difference(left, right) })
+        2 => pair(Operation::Sum),
+        3 => pair(Operation::Difference),
+        4 => pair(Operation::Mask),
+        5 => {
+            let place = reader.position();
+            let count = reader.byte().ok_or(Fault::Missing)?;
+            if count > MAX_COUNT {
+                return Err(Fault::Bad(place));
+            }
+            let part = read_node(reader, variables, nodes_left, builder)?;
+            Ok(builder.shift(count, part))
         }
         _ => Err(Fault::Bad(place)),
     }
@@ -99,10 +133,10 @@ pub enum Token {
     Constant(u32),
     /// Pushes a register.
     Register(u8),
-    /// Replaces the upper two by their sum.
-    Sum,
-    /// Replaces the upper two by their difference.
-    Difference,
+    /// Replaces the upper two by an operation on them.
+    Pair(Operation),
+    /// Replaces the uppermost by it shifted right.
+    Shift(u8),
 }
 
 /// An expression over the registers: its tokens in an [`Expressions`].
@@ -166,11 +200,11 @@ impl Builder for Vec<Token> {
         self.push(Token::Register(number as u8));
     }
 
-    fn sum(&mut self, (): (), (): ()) {
-        self.push(Token::Sum);
+    fn pair(&mut self, operation: Operation, (): (), (): ()) {
+        self.push(Token::Pair(operation));
     }
 
-    fn difference(&mut self, (): (), (): ()) {
-        self.push(Token::Difference);
+    fn shift(&mut self, count: u8, (): ()) {
+        self.push(Token::Shift(count));
     }
 }

@@ -1,7 +1,7 @@
-//! The loader of document 01 in plain Rust.
+//! The loader of document 01, with the requests of document 02 up to S-1, in plain Rust.
 //!
 //! [`check`] judges a policy and a package, [`run`] executes a package on the machine and
-//! [`find_proof`] finds a package's proof section. The crate is written from document 01 alone
+//! [`find_proof`] finds a package's proof section. The crate is written from these documents alone
 //! and shares nothing with the proved library, so that the two can be compared.
 
 #![forbid(unsafe_code)]

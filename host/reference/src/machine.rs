@@ -112,6 +112,8 @@ impl Machine<'_> {
                     steps += 1;
                     break 0;
                 }
+                Instruction::Mask { d, a, i } => state.set(d, state.get(a) & i),
+                Instruction::Shift { d, a, count } => state.set(d, state.get(a) >> count),
             }
             counter = next;
             steps += 1;

@@ -1,7 +1,7 @@
 //! The package: its layout (check 7), instructions (8, 9), annotations (10, 11) and jump
 //! targets (12).
 
-use crate::expression::{Expression, Expressions, Fault, Formula};
+use crate::expression::{Expression, Expressions, Fault, Formula, MAX_COUNT};
 use crate::reader::Reader;
 use crate::Refusal;
 
@@ -68,11 +68,13 @@ pub enum Instruction {
     JumpIfLess { a: Register, b: Register, target: u32 },
     JumpIfEqual { a: Register, b: Register, target: u32 },
     Return,
+    Mask { d: Register, a: Register, i: u32 },
+    Shift { d: Register, a: Register, count: u8 },
 }
 
 impl Instruction {
-    /// Decodes an instruction, if its operation is known, its registers exist and its unused
-    /// fields are zero.
+    /// Decodes an instruction, if its operation is known, its registers exist, its unused fields
+    /// are zero and a word is not shifted by more bits than it may be.
     fn decode([op, d, a, b]: [u8; 4], i: u32) -> Option<Instruction> {
         let register = |field: u8| field <= LAST_REGISTER;
         match op {
@@ -94,6 +96,10 @@ impl Instruction {
                 Some(Instruction::JumpIfEqual { a, b, target: i })
             }
             9 if d == 0 && a == 0 && b == 0 && i == 0 => Some(Instruction::Return),
+            10 if register(d) && register(a) && b == 0 => Some(Instruction::Mask { d, a, i }),
+            11 if register(d) && register(a) && b == 0 && i <= u32::from(MAX_COUNT) => {
+                Some(Instruction::Shift { d, a, count: i as u8 })
+            }
             _ => None,
         }
     }

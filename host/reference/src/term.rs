@@ -1,9 +1,9 @@
-//! Terms: constants, variables, sums and differences, each kept once.
+//! Terms: constants, variables, sums, differences, masks and shifts, each kept once.
 //!
 //! Two terms are the same tree exactly if they have the same number, so that the rules compare
 //! numbers. A term's parts have smaller numbers than the term.
 
-use crate::expression::{Builder, Token, REGISTERS};
+use crate::expression::{Builder, Operation, Token, REGISTERS};
 
 /// A term's number in its [`Terms`].
 #[derive(Clone, Copy, Debug, PartialEq, Eq)]
@@ -14,17 +14,25 @@ pub struct Term(u32);
 pub enum Shape {
     Constant(u32),
     Variable(u16),
-    Sum(Term, Term),
-    Difference(Term, Term),
+    Pair(Operation, Term, Term),
+    Shift(u8, Term),
+}
+
+/// What is known of a term.
+#[derive(Clone, Copy, Debug)]
+struct Facts {
+    /// The nodes of the tree written out.
+    nodes: u32,
+    /// The value, if there is no variable in the term.
+    value: Option<u32>,
+    /// Whether there is a mask or a shift in the term.
+    opaque: bool,
 }
 
 #[derive(Clone, Copy, Debug)]
 struct Node {
     shape: Shape,
-    /// The nodes of the tree written out.
-    nodes: u32,
-    /// The value, if there is no variable in the term.
-    value: Option<u32>,
+    facts: Facts,
     /// The place in the table.
     slot: u32,
 }
@@ -84,12 +92,12 @@ impl Terms {
 
     /// The nodes of a term written out.
     pub fn size(&self, term: Term) -> u32 {
-        self.nodes[term.0 as usize].nodes
+        self.facts(term).nodes
     }
 
     /// The value of a term without variables.
     pub fn value(&self, term: Term) -> Option<u32> {
-        self.nodes[term.0 as usize].value
+        self.facts(term).value
     }
 
     /// The term that an expression is over the registers' terms given.
@@ -101,13 +109,13 @@ impl Terms {
         let mut height = 0;
         for &token in expression {
             let term = match token {
-                Token::Sum => {
+                Token::Pair(operation) => {
                     height -= 2;
-                    self.sum(stack[height], stack[height + 1])
+                    self.pair(operation, stack[height], stack[height + 1])
                 }
-                Token::Difference => {
-                    height -= 2;
-                    self.difference(stack[height], stack[height + 1])
+                Token::Shift(count) => {
+                    height -= 1;
+                    self.shift(count, stack[height])
                 }
                 leaf => self.leaf(leaf, registers),
             };
@@ -121,15 +129,16 @@ impl Terms {
         match token {
             Token::Constant(value) => self.constant(value),
             Token::Register(number) => registers[usize::from(number)],
-            Token::Sum | Token::Difference => unreachable!("no leaf"),
+            Token::Pair(_) | Token::Shift(_) => unreachable!("no leaf"),
         }
     }
 
-    /// Whether two terms have the same constant and the same coefficient of each variable.
+    /// Whether two terms have the same constant and the same coefficient of each variable, a
+    /// masked or shifted term being one more variable.
     ///
-    /// Weighs the left term by 1 and the right by -1 and hands each weight down to the parts,
-    /// whole terms before their parts; what is left over must be nothing. Each term is weighed
-    /// once, however often it is part of the two.
+    /// Weighs the left term by 1 and the right by -1 and hands each weight down to the parts of
+    /// sums and differences, whole terms before their parts; what is left over must be nothing.
+    /// Each term is weighed once, however often it is part of the two.
     pub fn same_form(&mut self, left: Term, right: Term) -> bool {
         if left == right {
             return true;
@@ -152,20 +161,20 @@ impl Terms {
                 if weight == 0 || !same {
                     continue;
                 }
-                let node = &self.nodes[number];
-                match (node.value, node.shape) {
-                    (Some(value), _) => {
+                let Node { shape, facts, .. } = self.nodes[number];
+                match (facts.value, shape) {
+                    (Some(value), _) if !facts.opaque => {
                         constant = constant.wrapping_add(weight.wrapping_mul(value));
                     }
-                    (None, Shape::Sum(left, right)) => {
+                    (_, Shape::Pair(Operation::Sum, left, right)) => {
                         self.weigh(left, weight);
                         self.weigh(right, weight);
                     }
-                    (None, Shape::Difference(left, right)) => {
+                    (_, Shape::Pair(Operation::Difference, left, right)) => {
                         self.weigh(left, weight);
                         self.weigh(right, weight.wrapping_neg());
                     }
-                    (None, _) => same = false,
+                    _ => same = false,
                 }
             }
         }
@@ -179,7 +188,7 @@ impl Terms {
     }
 
     /// The number of a shape, new if it is not there yet.
-    fn intern(&mut self, shape: Shape, describe: impl FnOnce(&Self) -> (u32, Option<u32>)) -> Term {
+    fn intern(&mut self, shape: Shape, describe: impl FnOnce(&Self) -> Facts) -> Term {
         let mask = self.table.len() - 1;
         let mut slot = hash(shape) as usize & mask;
         loop {
@@ -190,8 +199,8 @@ impl Terms {
             }
         }
         let number = self.nodes.len() as u32;
-        let (nodes, value) = describe(self);
-        self.nodes.push(Node { shape, nodes, value, slot: slot as u32 });
+        let facts = describe(self);
+        self.nodes.push(Node { shape, facts, slot: slot as u32 });
         self.table[slot] = number;
         if self.nodes.len() > self.table.len() / 2 {
             self.grow();
@@ -213,18 +222,8 @@ impl Terms {
         }
     }
 
-    fn describe_pair(
-        &self,
-        left: Term,
-        right: Term,
-        operation: fn(u32, u32) -> u32,
-    ) -> (u32, Option<u32>) {
-        let (left, right) = (&self.nodes[left.0 as usize], &self.nodes[right.0 as usize]);
-        let value = match (left.value, right.value) {
-            (Some(left), Some(right)) => Some(operation(left, right)),
-            _ => None,
-        };
-        (left.nodes + right.nodes + 1, value)
+    fn facts(&self, term: Term) -> &Facts {
+        &self.nodes[term.0 as usize].facts
     }
 }
 
@@ -232,22 +231,34 @@ impl Builder for Terms {
     type Part = Term;
 
     fn constant(&mut self, value: u32) -> Term {
-        self.intern(Shape::Constant(value), |_| (1, Some(value)))
+        let facts = Facts { nodes: 1, value: Some(value), opaque: false };
+        self.intern(Shape::Constant(value), |_| facts)
     }
 
     fn variable(&mut self, number: u16) -> Term {
-        self.intern(Shape::Variable(number), |_| (1, None))
+        let facts = Facts { nodes: 1, value: None, opaque: false };
+        self.intern(Shape::Variable(number), |_| facts)
     }
 
-    fn sum(&mut self, left: Term, right: Term) -> Term {
-        self.intern(Shape::Sum(left, right), |terms| {
-            terms.describe_pair(left, right, u32::wrapping_add)
+    fn pair(&mut self, operation: Operation, left: Term, right: Term) -> Term {
+        self.intern(Shape::Pair(operation, left, right), |terms| {
+            let (left, right) = (terms.facts(left), terms.facts(right));
+            Facts {
+                nodes: left.nodes + right.nodes + 1,
+                value: match (left.value, right.value) {
+                    (Some(left), Some(right)) => Some(operation.apply(left, right)),
+                    _ => None,
+                },
+                opaque: left.opaque || right.opaque || operation == Operation::Mask,
+            }
         })
     }
 
-    fn difference(&mut self, left: Term, right: Term) -> Term {
-        self.intern(Shape::Difference(left, right), |terms| {
-            terms.describe_pair(left, right, u32::wrapping_sub)
+    fn shift(&mut self, count: u8, part: Term) -> Term {
+        self.intern(Shape::Shift(count, part), |terms| {
+            let &Facts { nodes, value, .. } = terms.facts(part);
+            let value = value.map(|value| value >> count);
+            Facts { nodes: nodes + 1, value, opaque: true }
         })
     }
 }
@@ -256,8 +267,8 @@ fn hash(shape: Shape) -> u32 {
     let (kind, left, right) = match shape {
         Shape::Constant(value) => (0, value, 0),
         Shape::Variable(number) => (1, u32::from(number), 0),
-        Shape::Sum(left, right) => (2, left.0, right.0),
-        Shape::Difference(left, right) => (3, left.0, right.0),
+        Shape::Pair(operation, left, right) => (2 + operation as u64, left.0, right.0),
+        Shape::Shift(count, part) => (5, part.0, u32::from(count)),
     };
     let mixed = (u64::from(left) << 32 | u64::from(right)).wrapping_add(kind << 30);
     (mixed.wrapping_mul(0x9e37_79b9_7f4a_7c15) >> 32) as u32
@@ -265,6 +276,8 @@ fn hash(shape: Shape) -> u32 {
 
 #[cfg(test)]
 mod tests {
+    use std::collections::BTreeMap;
+
     use super::*;
 
     /// A random number below `limit`, by a linear congruence.
@@ -274,20 +287,34 @@ mod tests {
         (*state >> 33) % limit
     }
 
-    /// The constant and the coefficients of a term, part by part.
-    fn form(terms: &Terms, term: Term) -> [u32; 20] {
-        let pair = |left, right, operation: fn(u32, u32) -> u32| {
-            let (left, right) = (form(terms, left), form(terms, right));
-            std::array::from_fn(|number| operation(left[number], right[number]))
-        };
-        let mut form = [0; 20];
+    /// A term written out.
+    fn text(terms: &Terms, term: Term) -> String {
         match terms.shape(term) {
-            Shape::Constant(value) => form[19] = value,
-            Shape::Variable(number) => form[usize::from(number)] = 1,
-            Shape::Sum(left, right) => return pair(left, right, u32::wrapping_add),
-            Shape::Difference(left, right) => return pair(left, right, u32::wrapping_sub),
+            Shape::Constant(value) => value.to_string(),
+            Shape::Variable(number) => format!("v{number}"),
+            Shape::Pair(operation, left, right) => {
+                format!("{operation:?}({}, {})", text(terms, left), text(terms, right))
+            }
+            Shape::Shift(count, part) => format!("Shift{count}({})", text(terms, part)),
         }
-        form
+    }
+
+    /// The constant, under the name of a 1, and the coefficients that are not 0, part by part.
+    fn form(terms: &Terms, term: Term) -> BTreeMap<String, u32> {
+        let (name, weight) = match terms.shape(term) {
+            Shape::Constant(value) => ("1".into(), value),
+            Shape::Pair(operation, left, right) if operation != Operation::Mask => {
+                let mut form = form(terms, left);
+                for (name, weight) in self::form(terms, right) {
+                    let sum = form.entry(name).or_default();
+                    *sum = operation.apply(*sum, weight);
+                }
+                form.retain(|_, weight| *weight != 0);
+                return form;
+            }
+            _ => (text(terms, term), 1),
+        };
+        BTreeMap::from_iter((weight != 0).then_some((name, weight)))
     }
 
     #[test]
@@ -300,18 +327,20 @@ mod tests {
             for _ in 0..40 {
                 let [left, right] =
                     std::array::from_fn(|_| made[random(&mut state, made.len() as u64) as usize]);
-                made.push(match random(&mut state, 5) {
+                let small = terms.size(left) + terms.size(right) < 200;
+                made.push(match random(&mut state, 8) {
                     0 => terms.constant([0, 1, u32::MAX][random(&mut state, 3) as usize]),
-                    1 | 2 if terms.size(left) + terms.size(right) < 200 => terms.sum(left, right),
-                    3 | 4 if terms.size(left) + terms.size(right) < 200 => {
-                        terms.difference(left, right)
-                    }
+                    1 | 2 if small => terms.pair(Operation::Sum, left, right),
+                    3 | 4 if small => terms.pair(Operation::Difference, left, right),
+                    5 if small => terms.pair(Operation::Mask, left, right),
+                    6 => terms.shift(random(&mut state, 2) as u8, left),
                     _ => terms.variable(random(&mut state, 19) as u16),
                 });
             }
-            for &left in &made {
-                for &right in &made {
-                    let expected = form(&terms, left) == form(&terms, right);
+            let forms: Vec<_> = made.iter().map(|&term| form(&terms, term)).collect();
+            for (&left, first) in made.iter().zip(&forms) {
+                for (&right, second) in made.iter().zip(&forms) {
+                    let expected = first == second;
                     assert_eq!(terms.same_form(left, right), expected);
                     same += usize::from(expected && left != right);
                 }
@@ -332,7 +361,11 @@ mod tests {
                 let count = terms.count() as u64;
                 let left = Term(random(&mut state, count) as u32);
                 let right = Term(random(&mut state, count) as u32);
-                terms.sum(left, right);
+                match random(&mut state, 4) {
+                    0 => terms.shift((count % 32) as u8, left),
+                    1 => terms.pair(Operation::Mask, left, right),
+                    _ => terms.pair(Operation::Sum, left, right),
+                };
             }
             shapes.clear();
             shapes.extend(terms.nodes.iter().map(|node| node.shape));

@@ -1,4 +1,5 @@
-//! The commissioning samples of document 01, and the sample folders of the repository.
+//! The commissioning samples of document 01, edges of document 02, and the sample folders of the
+//! repository.
 
 mod common;
 
@@ -86,6 +87,36 @@ fn instruction_counts() {
 fn register_nodes() {
     assert_eq!(check(&policy(1, 1), &package(&[DOUBLE; 8], &[], &[])), [14, 7, 0]);
     assert_eq!(check(&policy(1, 1), &package(&[DOUBLE; 7], &[], &[])), [13, 7, 0]);
+}
+
+#[test]
+fn register_nodes_by_shifts() {
+    // 255 nodes and 256, by doublings and by shifts alone
+    let shift = ([11, 1, 1, 0], 1);
+    let code = [&[DOUBLE; 6][..], &[shift; 128]].concat();
+    assert_eq!(check(&policy(1, 1), &package(&code, &[], &[])), [13, 134, 0]);
+    let code = [&[DOUBLE; 6][..], &[shift; 129]].concat();
+    assert_eq!(check(&policy(1, 1), &package(&code, &[], &[])), [14, 134, 0]);
+    let code = [&[DOUBLE; 7][..], &[shift]].concat();
+    assert_eq!(check(&policy(1, 1), &package(&code, &[], &[])), [14, 7, 0]);
+    assert_eq!(check(&policy(1, 1), &package(&[shift; 254], &[], &[])), [13, 254, 0]);
+    assert_eq!(check(&policy(1, 1), &package(&[shift; 255], &[], &[])), [14, 254, 0]);
+}
+
+#[test]
+fn masks_and_shifts_run() {
+    // register 1 := register 1 masked, register 2 := register 1 shifted
+    let run_with = |word: u32, i: u32, count: u32| {
+        let code = [([10, 1, 1, 0], i), ([11, 2, 1, 0], count), RETURN];
+        let mut start = start(3, 17);
+        start[8..12].copy_from_slice(&word.to_le_bytes());
+        let (answer, registers, _) = run(&policy(1, 1), &package(&code, &[], &[]), &start);
+        (answer, registers[1], registers[2])
+    };
+    assert_eq!(run_with(0xdead_beef, 0x00ff_ff00, 8), ([0, 2, 3], 0x00ad_be00, 0xadbe));
+    assert_eq!(run_with(u32::MAX, u32::MAX, 31), ([0, 2, 3], u32::MAX, 1));
+    assert_eq!(run_with(12, 10, 0), ([0, 2, 3], 8, 8));
+    assert_eq!(run_with(12, 10, 32), ([8, 1, 0], 12, 0));
 }
 
 #[test]

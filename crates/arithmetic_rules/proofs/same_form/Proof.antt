@@ -13,10 +13,10 @@ compare-requires : tie.Need-compare-requires
 compare-requires c κs = comparable (c .before .before .before .before .before .before .pre .0) (sides-told (c .before .before .before .before .sides .ensures) (c .before .before .a .given .1)) (c .before .before .before .before .before .before .pre .1 .1) (c .before .before .before .before .before .before .pre .1 .0)
 
 returns-2 : tie.Need-returns-2
-returns-2 c = linear-fits (c .before .before .before .before .before .before .before .before .before .before .before .before .pre .0) (sides-told (c .before .before .before .before .before .before .before .before .before .before .sides .ensures) (c .before .before .before .before .before .before .before .before .a .given .1)) (c .before .before .before .before .before .compare .ensures .1) (c .before .before .before .before .before .compare .ensures .0) (c .before .enum-told2 .given .1) (c .none .ensures)
+returns-2 c = linear-fits (c .before .before .before .before .before .before .before .before .before .before .before .before .pre .0) (sides-told (c .before .before .before .before .before .before .before .before .before .before .sides .ensures) (c .before .before .before .before .before .before .before .before .a .given .1)) (c .before .before .before .before .before .compare .ensures .1) (c .before .before .before .before .before .compare .kept .0) (c .before .before .before .before .before .compare .ensures .0) (c .before .enum-told2 .given .1) (c .none .ensures)
 
 returns-3 : tie.Need-returns-3
-returns-3 c = linear-differs (c .before .before .before .before .before .before .before .before .before .before .before .before .pre .0) (sides-told (c .before .before .before .before .before .before .before .before .before .before .sides .ensures) (c .before .before .before .before .before .before .before .before .a .given .1)) (c .before .before .before .before .before .compare .ensures .1) (c .before .before .before .before .before .compare .ensures .0) (c .before .enum-told3 .given .1) (c .unfit2 .ensures)
+returns-3 c = linear-differs (c .before .before .before .before .before .before .before .before .before .before .before .before .pre .0) (sides-told (c .before .before .before .before .before .before .before .before .before .before .sides .ensures) (c .before .before .before .before .before .before .before .before .a .given .1)) (c .before .before .before .before .before .compare .ensures .1) (c .before .before .before .before .before .compare .kept .0) (c .before .before .before .before .before .compare .ensures .0) (c .before .enum-told3 .given .1) (c .unfit2 .ensures)
 
 pub same-form-spec : {M : Type 1} → statement M
 same-form-spec =

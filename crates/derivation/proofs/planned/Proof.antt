@@ -20,11 +20,11 @@ from-sides-requires-4 c κs = (c .before .before .before .pre .below, argument-b
 from-sides-requires-5 : tie.Need-from-sides-requires-5
 from-sides-requires-5 c κs = (c .before .before .before .pre .below, argument-below (c .before .before .before .pre) 8 (c .match .keys9) refl)
 
-right-of-requires : tie.Need-right-of-requires
-right-of-requires c κs = (none-below 22 _ (c .before .match .rest), c .if1 .taken)
-
 contradicted-requires : tie.Need-contradicted-requires
-contradicted-requires c κs = argument-below (c .before .before .before .before .pre) 24 (last-rule (c .before .before .before .before .pre) (c .if1 .left)) refl
+contradicted-requires c κs = argument-below (c .before .before .before .pre) 24 (c .match .keys23) refl
+
+right-of-requires : tie.Need-right-of-requires
+right-of-requires c κs = (none-below 22 _ (c .before .match .rest .0 .0 .0), c .if1 .taken)
 
 returns : tie.Need-returns
 unfolding ruleOf
@@ -115,11 +115,23 @@ unfolding premises sidePremises ruleOf
 returns-22 c = chosen (c .before .before .before .before .pre) 21 (c .before .match .keys22) (c .from-sides10 .ensures _ (c .before .before .before .before .pre .prepared .formed)) (λ policy g j. (tt, refl))
 
 returns-23 : tie.Need-returns-23
-returns-23 c = chosen (c .before .before .before .before .before .before .before .before .before .pre) _ refl (c .before .before .in-region .ensures) (λ policy g j. (j .regions, asks-region policy g _ _ _ (none-below 22 _ (c .before .before .before .before .before .before .match .rest), c .before .before .before .before .before .if1 .taken) (c .before .before .before .before .right-of .ensures)))
+unfolding ruleOf
+returns-23 c = chosen (c .before .before .before .before .pre) 24 (c .before .match .keys23) (c .contradicted .ensures _ (c .before .before .before .before .pre .prepared .formed) _) (λ policy g j. (tt, refl))
 
 returns-24 : tie.Need-returns-24
 unfolding ruleOf
-returns-24 c = chosen (c .before .before .before .before .before .pre) 24 (last-rule (c .before .before .before .before .before .pre) (c .before .if1 .left)) (c .contradicted .ensures _ (c .before .before .before .before .before .pre .prepared .formed) _) (λ policy g j. (tt, refl))
+returns-24 c = chosen (c .before .before .before .before .before .pre) 25 (c .before .before .match .keys24) (c .mask-at-most .ensures) (λ policy g j. (tt, refl))
+
+returns-25 : tie.Need-returns-25
+unfolding ruleOf
+returns-25 c = chosen (c .before .before .before .before .before .pre) 26 (c .before .before .match .keys25) (c .shift-at-most .ensures) (λ policy g j. (tt, refl))
+
+returns-26 : tie.Need-returns-26
+returns-26 c = chosen (c .before .before .before .before .before .before .before .before .before .pre) _ refl (c .before .before .in-region .ensures) (λ policy g j. (j .regions, asks-region policy g _ _ _ (none-below 22 _ (c .before .before .before .before .before .before .match .rest .0 .0 .0), c .before .before .before .before .before .if1 .taken) (c .before .before .before .before .right-of .ensures)))
+
+returns-27 : tie.Need-returns-27
+unfolding ruleOf
+returns-27 c = chosen (c .before .before .before .before .before .before .pre) 27 (last-rule (c .before .before .before .before .before .before .pre) (c .before .before .if1 .left) (c .before .before .before .match .rest .0 .0 .1) (c .before .before .before .match .rest .0 .1) (c .before .before .before .match .rest .1)) (c .shift-bounded .ensures) (λ policy g j. (tt, refl))
 
 pub planned-spec : {M : Type 1} → statement M
 planned-spec =
@@ -147,9 +159,12 @@ planned-spec =
     (λ c κs. search needs)
     (λ c κs. search needs)
     (λ c κs. search needs)
+    contradicted-requires
+    (λ c κs. search needs)
+    (λ c κs. search needs)
     right-of-requires
     (λ c κs. search needs)
-    contradicted-requires
+    (λ c κs. search needs)
     (λ c. search needs)
     returns
     (λ c. search needs)
@@ -184,6 +199,12 @@ planned-spec =
     returns-20
     returns-21
     returns-22
-    (λ c. search needs)
     returns-23
-    returns-24)
+    (λ c. search needs)
+    returns-24
+    (λ c. search needs)
+    returns-25
+    (λ c. search needs)
+    returns-26
+    (λ c. search needs)
+    returns-27)

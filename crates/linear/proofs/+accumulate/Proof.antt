@@ -1,6 +1,6 @@
-use Rattle.linear.proofs.Laws.{first, second, sum-parts, difference-parts, variable-within, accumulated-constant, accumulated-variable, accumulated-sum, accumulated-difference}
-use borrow.Author.Needs.{needs}
 use native.Mathlib.Omega.{arith}
+use Rattle.linear.proofs.Laws.{first, second, sum-parts, difference-parts, variable-within, not-opaque, accumulated-constant, accumulated-variable, accumulated-sum, accumulated-difference}
+use borrow.Author.Needs.{needs}
 use Prim.Native.Nat.{ℕ, _<_}
 use borrow.Fn.Kinds.{In}
 use borrow.Fn.PlainCycle.{Measures, is, falls, and}
@@ -13,7 +13,6 @@ use Rattle.terms.proofs.view.Reads as view-reads
 use Rattle.linear.proofs.+accumulate.{statement}
 use Rattle.linear.proofs.+accumulate.Tie.{close}
 
--- the node's number
 abbrev μ : Measures 1 kinds.ps ℕ
 μ κs a = a .1 .0
 
@@ -28,7 +27,7 @@ R t = (view-reads.Asked, view-reads.Learnt, change-reads.Asked, change-reads.Lea
 
 module _ (t : ℕ) where
   change-requires-2 : lts.Need-change-requires-2 (R t) (given t) it.Post
-  change-requires-2 c κs = omega (arith, variable-within (c .before .before .before .before .before .before .before .before .pre .1) (c .before .before .before .before .before .view .ensures) (c .before .before .before .v .given .1), c .before .before .before .before .before .before .before .before .pre .1 .formed .room)
+  change-requires-2 c κs = omega (arith, variable-within (c .before .before .before .before .before .before .before .before .pre .1) (c .before .before .before .before .before .view .ensures) (c .before .before .before .v .given .1), c .before .before .before .before .before .before .before .before .pre .1 .formed .shaped .words, c .before .before .before .before .before .before .before .before .pre .1 .formed .shaped .fits)
 
   accumulate-requires : lts.Need-accumulate-requires (R t) (given t) it.Post
   accumulate-requires c κs = first (c .before .before .before .before .before .before .before .pre .0) (sum-parts (c .before .before .before .before .before .before .before .pre .1) (c .before .before .before .before .view .ensures) (c .before .before .l .given .1))
@@ -54,5 +53,8 @@ module _ (t : ℕ) where
   returns-4 : lts.Need-returns-4 (R t) (given t) it.Post
   returns-4 c = accumulated-difference (c .before .before .before .before .before .before .before .before .before .before .before .before .before .before .pre .1) (c .before .before .before .before .before .before .before .before .before .before .before .view .ensures) (c .before .before .before .before .before .before .accumulate3 .ensures) (c .before .before .before .before .before .before .before .before .before .l2 .given .1) (c .before .before .accumulate4 .ensures)
 
+  returns-5 : lts.Need-returns-5 (R t) (given t) it.Post
+  returns-5 c = not-opaque (c .before .before .before .before .pre .1) (c .before .view .ensures) (c .match .keys5)
+
 pub +accumulate-spec : {M : Type 1} → statement M
-+accumulate-spec = close μ (λ t. lts.spec (R t) (given t) it.Post (λ c κs. search needs) (λ c. search needs) (λ c κs. search needs) (λ c. search needs) (λ c κs. search needs) (change-requires-2 t) (λ c. search needs) (accumulate-requires t) (accumulate-requires-2 t) (λ c. search needs) (accumulate-requires-3 t) (accumulate-requires-4 t) (λ c. search needs) (returns t) (λ c. search needs) (returns-2 t) (λ c. search needs) (returns-3 t) (λ c. search needs) (returns-4 t))
++accumulate-spec = close μ (λ t. lts.spec (R t) (given t) it.Post (λ c κs. search needs) (λ c. search needs) (λ c κs. search needs) (λ c. search needs) (λ c κs. search needs) (change-requires-2 t) (λ c. search needs) (accumulate-requires t) (accumulate-requires-2 t) (λ c. search needs) (accumulate-requires-3 t) (accumulate-requires-4 t) (λ c. search needs) (returns t) (λ c. search needs) (returns-2 t) (λ c. search needs) (returns-3 t) (λ c. search needs) (returns-4 t) (λ c. search needs) (returns-5 t))

@@ -49,6 +49,18 @@ word-requires-8 c κs = omega (arith, steps.told (c .before .before .instruction
 word-requires-9 : tie.Need-word-requires-9
 word-requires-9 c κs = omega (arith, steps.told (c .before .before .before .before .instruction9 .given .1) (c .before .before .before .before .before .before .before .before .pre))
 
+word-requires-10 : tie.Need-word-requires-10
+word-requires-10 c κs = omega (arith, steps.told (c .before .before .instruction10 .given .1) (c .before .before .before .before .before .before .pre))
+
+assign-requires-5 : tie.Need-assign-requires-5
+assign-requires-5 c κs = omega (arith, steps.told (c .before .before .before .before .before .instruction10 .given .1) (c .before .before .before .before .before .before .before .before .before .pre))
+
+word-requires-11 : tie.Need-word-requires-11
+word-requires-11 c κs = omega (arith, steps.told (c .before .before .instruction11 .given .1) (c .before .before .before .before .before .before .pre))
+
+assign-requires-6 : tie.Need-assign-requires-6
+assign-requires-6 c κs = omega (arith, steps.told (c .before .before .before .before .before .instruction11 .given .1) (c .before .before .before .before .before .before .before .before .before .pre))
+
 returns : tie.Need-returns
 returns c = steps.sets _ _ _ _ _ _ _ _ _ (c .before .before .assign .ensures) (c .before .before .before .before .before .instruction .given .1)
 
@@ -78,6 +90,12 @@ returns-9 c = steps.jumps-equal _ _ _ _ _ _ _ _ _ _ _ (c .before .before .before
 
 returns-10 : tie.Need-returns-10
 returns-10 c = steps.returning _ _ _ _ _ (c .enum-told .given .1)
+
+returns-11 : tie.Need-returns-11
+returns-11 c = steps.masks _ _ _ _ _ _ _ _ _ (c .before .before .assign5 .ensures) _ _ _ (c .before .before .before .before .before .before .before .before .instruction10 .given .1) (c .before .before .before .before .before .word10 .ensures) (c .before .before .before .before .mask .ensures)
+
+returns-12 : tie.Need-returns-12
+returns-12 c = steps.shifts _ _ _ _ _ _ _ _ _ (c .before .before .assign6 .ensures) _ _ _ (c .before .before .before .before .before .before .before .before .instruction11 .given .1) (c .before .before .before .before .before .word11 .ensures) (c .before .before .before .before .shift .ensures)
 
 pub execute-spec : {M : Type 1} → statement M
 execute-spec =
@@ -115,6 +133,14 @@ execute-spec =
     (λ c κs. search needs)
     (λ c. search needs)
     (λ c. search needs)
+    word-requires-10
+    (λ c κs. search needs)
+    assign-requires-5
+    (λ c. search needs)
+    word-requires-11
+    (λ c κs. search needs)
+    assign-requires-6
+    (λ c. search needs)
     returns
     (λ c. search needs)
     returns-2
@@ -133,4 +159,8 @@ execute-spec =
     returns-8
     (λ c. search needs)
     returns-9
-    returns-10)
+    returns-10
+    (λ c. search needs)
+    returns-11
+    (λ c. search needs)
+    returns-12)

@@ -3,7 +3,7 @@ use Rattle.terms.proofs.holds_value.Statement.{statement}
 use Rattle.terms.proofs.holds_value.Tie as tie
 
 returns : tie.Need-returns
-returns c = rw (c .is-closed .ensures .0, c .before .marks .ensures)
+returns c = rw (c .marks .ensures)
 
 pub holds-value-spec : {M : Type 1} → statement M
-holds-value-spec = tie.close (tie.spec (λ c κs. search needs) (λ c κs. search needs) returns)
+holds-value-spec = tie.close (tie.spec (λ c κs. search needs) returns)

@@ -1,6 +1,7 @@
 use mathlib.Core.Path.{sym}
+use native.Mathlib.Omega.{arith}
 use Rattle.terms.specs.Table.{viewOf}
-use Rattle.terms.proofs.Table.{other-tag}
+use Rattle.terms.proofs.Table.{shift-tag, other-tag}
 use borrow.Author.Needs.{needs}
 use Rattle.terms.proofs.node_at.Statement.{statement}
 use Rattle.terms.proofs.node_at.Tie as tie
@@ -19,7 +20,15 @@ returns-3 c = rw (c .before .before .before .match .keys3, c .before .wide .ensu
 
 returns-4 : tie.Need-returns-4
 unfolding viewOf
-returns-4 c = rw (c .before .wide2 .ensures, c .before .before .low2 .ensures .0, c .high2 .ensures .0) (sym (other-tag _ _ _ (c .before .before .before .match .rest .0 .0 .1) (c .before .before .before .match .rest .0 .1) (c .before .before .before .match .rest .1)))
+returns-4 c = rw (c .before .before .before .match .keys4, c .before .wide2 .ensures, c .before .before .low2 .ensures .0, c .high2 .ensures .0)
+
+returns-5 : tie.Need-returns-5
+unfolding viewOf
+returns-5 c = rw (c .before .before .before .match .keys5, c .before .wide3 .ensures, c .before .before .low3 .ensures .0, c .high3 .ensures .0)
+
+returns-6 : tie.Need-returns-6
+unfolding viewOf
+returns-6 c = rw (c .wide4 .ensures, c .before .low4 .ensures .0) (sym (shift-tag _ _ _ (other-tag _ (c .before .before .match .rest .0 .0 .0 .0 .1) (c .before .before .match .rest .0 .0 .0 .1) (c .before .before .match .rest .0 .0 .1) (c .before .before .match .rest .0 .1) (c .before .before .match .rest .1))))
 
 pub node-at-spec : {M : Type 1} → statement M
 node-at-spec =
@@ -41,7 +50,14 @@ node-at-spec =
     (λ c κs. search needs)
     (λ c κs. search needs)
     (λ c κs. search needs)
+    (λ c κs. search needs)
+    (λ c κs. search needs)
+    (λ c κs. search needs)
+    (λ c κs. search needs)
+    (λ c κs. search needs)
     returns
     returns-2
     returns-3
-    returns-4)
+    returns-4
+    returns-5
+    returns-6)

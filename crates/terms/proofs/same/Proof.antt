@@ -6,7 +6,7 @@ use Rattle.terms.proofs.same.Statement.{statement}
 use Rattle.terms.proofs.same.Tie as tie
 
 returns : tie.Need-returns
-returns c = same-twin (c .before .before .before .pre .0) (c .before .before .before .pre .1) (eqb-true _ _ (sym (c .before .twins .ensures) ∙ c .if1 .taken))
+returns c = same-twin (c .before .before .before .pre .0 .shaped) (c .before .before .before .pre .1 .shaped) (eqb-true _ _ (sym (c .before .twins .ensures) ∙ c .if1 .taken))
 
 pub same-spec : {M : Type 1} → statement M
 same-spec = tie.close (tie.spec (λ c κs. search needs) returns (λ c κs. search needs) (λ c. search needs))

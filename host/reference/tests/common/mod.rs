@@ -1,6 +1,8 @@
 //! What the tests share: bytes in hexadecimal, start files, answers as three numbers.
 #![allow(dead_code)]
 
+pub mod digest;
+
 /// The bytes of a text in hexadecimal, with or without spaces.
 pub fn hex(text: &str) -> Vec<u8> {
     let digits: Vec<u32> =

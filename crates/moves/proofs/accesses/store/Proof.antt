@@ -7,7 +7,7 @@ use Rattle.moves.proofs.accesses.store.Statement.{statement}
 use Rattle.moves.proofs.accesses.store.Tie as tie
 
 goal-requires : tie.Need-goal-requires
-goal-requires c κs = let n = address-in (c .before .before .before .before .put-sum-with .ensures) (c .before .raised .ensures) in (address-going (c .before .before .before .before .before .before .before .before .before .pre .1 .1 .0) (c .before .before .before .before .before .before .before .before .before .pre .1 .0) (c .before .before .before .before .before .before .before .before .before .pre .1 .1 .1) (c .before .before .before .before .put-sum-with .kept .0) (c .before .before .before .before .put-sum-with .ensures) (omega arith) (c .before .raised .ensures), record { below = n .below; bound = n .bound })
+goal-requires c κs = let n = address-in (c .before .before .before .before .put-with .ensures) (c .before .raised .ensures) in (address-going (c .before .before .before .before .before .before .before .before .before .pre .1 .1 .0) (c .before .before .before .before .before .before .before .before .before .pre .1 .0) (c .before .before .before .before .before .before .before .before .before .pre .1 .1 .1) (c .before .before .before .before .put-with .kept .0) (c .before .before .before .before .put-with .ensures) (omega arith) (c .before .raised .ensures), record { below = n .below; bound = n .bound })
 
 add-stepped : tie.Need-add-stepped
 add-stepped c = omega (arith, c .before .before .before .before .before .before .before .before .before .before .before .before .before .before .before .before .pre .1 .1 .0 .within)
@@ -16,10 +16,10 @@ stepped-requires : tie.Need-stepped-requires
 stepped-requires c κs = omega (arith, c .before .before .before .before .before .before .before .before .before .before .before .before .before .before .before .before .pre .1 .1 .0 .run)
 
 returns : tie.Need-returns
-returns c = store-goes (c .before .before .before .before .before .before .before .before .before .before .before .before .before .before .before .before .before .pre .1 .1 .0) writable (c .before .before .before .before .before .before .before .before .before .before .before .before .put-sum-with .ensures) (c .before .before .before .before .before .before .before .before .before .raised .ensures) (c .before .before .before .before .before .before .before .goal .ensures) (c .before .before .before .judged .given .1) (c .before .before .before .before .before .before .before .goal .kept .1 .1 .1 .0 ∙ c .before .before .before .before .before .before .before .before .before .before .before .before .put-sum-with .kept .0) (c .stepped .ensures)
+returns c = store-goes (c .before .before .before .before .before .before .before .before .before .before .before .before .before .before .before .before .before .pre .1 .1 .0) writable (c .before .before .before .before .before .before .before .before .before .before .before .before .put-with .ensures) (c .before .before .before .before .before .before .before .before .before .raised .ensures) (c .before .before .before .before .before .before .before .goal .ensures) (c .before .before .before .judged .given .1) (c .before .before .before .before .before .before .before .goal .kept .1 .1 .1 .0 ∙ c .before .before .before .before .before .before .before .before .before .before .before .before .put-with .kept .0) (c .stepped .ensures)
 
 returns-2 : tie.Need-returns-2
-returns-2 c = access-refused (c .before .before .before .before .before .before .before .before .before .before .before .before .before .before .before .pre .1 .1 .0) writable (c .before .before .before .before .before .before .before .before .before .before .put-sum-with .ensures) (c .before .before .before .before .before .before .before .raised .ensures) (c .before .before .before .before .before .goal .ensures) _ (c .before .judged2 .given .1)
+returns-2 c = access-refused (c .before .before .before .before .before .before .before .before .before .before .before .before .before .before .before .pre .1 .1 .0) writable (c .before .before .before .before .before .before .before .before .before .before .put-with .ensures) (c .before .before .before .before .before .before .before .raised .ensures) (c .before .before .before .before .before .goal .ensures) _ (c .before .judged2 .given .1)
 
 pub store-spec : {M : Type 1} → statement M
 store-spec =

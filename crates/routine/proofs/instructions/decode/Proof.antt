@@ -1,6 +1,6 @@
 use mathlib.Core.Path.{refl}
 use mathlib.Core.Logic.{⊎-elim}
-use Rattle.routine.proofs.Decoding.{passes, fails, other, the-next, one-of-two, default}
+use Rattle.routine.proofs.Decoding.{passes, fails, other, the-next, one-of-two}
 use Rattle.routine.proofs.instructions.decode.Statement.{statement}
 use Rattle.routine.proofs.instructions.decode.Tie as tie
 
@@ -34,6 +34,9 @@ returns-9 c = passes 7 _ _ _ _ _ _ _ _ refl refl (c .if12 .taken) (c .before .if
 returns-10 : tie.Need-returns-10
 returns-10 c = passes 8 _ _ _ _ _ _ _ _ refl refl (the-next 7 _ (other _ (c .before .before .before .before .match .rest) .from6 (c .before .before .before .if7 .left)) (c .before .before .if10 .taken) (c .if12 .left)) (c .before .if11 .taken)
 
+decode-bitwise-requires : tie.Need-decode-bitwise-requires
+decode-bitwise-requires c κs = other _ (c .before .before .match .rest) .from9 (c .if10 .left)
+
 returns-11 : tie.Need-returns-11
 returns-11 c = fails 0 _ _ _ _ _ _ _ _ refl refl (c .before .match .keys1) (c .if1 .left)
 
@@ -55,9 +58,6 @@ returns-16 c = ⊎-elim (λ e. fails 4 _ _ _ _ _ _ _ _ refl refl e (c .if8 .left
 returns-17 : tie.Need-returns-17
 returns-17 c = ⊎-elim (λ e. fails 7 _ _ _ _ _ _ _ _ refl refl e (c .if11 .left)) (λ e. fails 8 _ _ _ _ _ _ _ _ refl refl e (c .if11 .left)) (one-of-two 7 _ (other _ (c .before .before .before .match .rest) .from6 (c .before .before .if7 .left)) (c .before .if10 .taken))
 
-returns-18 : tie.Need-returns-18
-returns-18 c = default _ _ _ _ _ (other _ (c .before .before .match .rest) .from9 (c .if10 .left))
-
 pub decode-spec : {M : Type 1} → statement M
 decode-spec =
     tie.close
@@ -72,6 +72,7 @@ decode-spec =
     returns-8
     returns-9
     returns-10
+    decode-bitwise-requires
     returns-11
     returns-12
     returns-13
@@ -79,4 +80,4 @@ decode-spec =
     returns-15
     returns-16
     returns-17
-    returns-18)
+    (λ c. c .decode-bitwise .ensures))
