@@ -32,8 +32,9 @@ none-below zero n h = omega arith
 none-below (suc k) n h = omega (arith, none-below k n (h .0), h .1)
 
 module _ {ws words : List ℕ} {scope : Scope} {number v : ℕ} {claim : Claim} {top : ℕ} (y : Plannable ws words scope number v claim top) where
-  pub last-rule : 24 ≤ number → (number ≡ 24 → ⊥) → (number ≡ 25 → ⊥) → (number ≡ 26 → ⊥) → number ≡ 27
-  last-rule h a b c = omega (arith, y .known)
+  -- what is left beside the other numbers is 22 and 23
+  pub region-rule : NoneBelow 22 number → (number ≡ 24 → ⊥) → (number ≡ 25 → ⊥) → (number ≡ 26 → ⊥) → (number ≡ 27 → ⊥) → (22 ≤ number) × (number < 24)
+  region-rule h a b c d = (none-below 22 number h, omega (arith, y .known))
 
   -- the argument of a rule of number n
   pub argument-below : (n : ℕ) → number ≡ n → Argument ≡ formOf (getElem? rules n) → v < top

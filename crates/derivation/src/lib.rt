@@ -29,7 +29,7 @@ pub enum Derived {
     Refused(Refusal),
 }
 
-// What the rule of a number asks of a claim; `value` is its argument: an index, a region's number or a node.
+// What the rule of a number asks of a claim; `value` is its argument: an index, a region's number or a node. Rules 22 and 23 are the rest.
 fn planned(
     regions: &[u32],
     ws: &mut [u32],
@@ -69,14 +69,14 @@ fn planned(
         19 => from_sides(claim, less, Shape::Both, at_most, unequal, 0, top),
         20 => from_sides(claim, unequal, Shape::Same, less, less, 0, top),
         21 => from_sides(claim, unequal, Shape::Exchanged, unequal, unequal, 0, top),
-        22..=23 => {
-            let right = memory_rules::right_of(number);
-            memory_rules::in_region(regions, scope.regions, ws, claim, right, value, top)
-        }
         24 => logic_rules::contradicted(value, top),
         25 => bit_rules::mask_at_most(ws, claim, top),
         26 => bit_rules::shift_at_most(ws, claim, top),
-        _ => bit_rules::shift_bounded(ws, claim, top),
+        27 => bit_rules::shift_bounded(ws, claim, top),
+        _ => {
+            let right = memory_rules::right_of(number);
+            memory_rules::in_region(regions, scope.regions, ws, claim, right, value, top)
+        }
     }
 }
 

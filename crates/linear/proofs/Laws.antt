@@ -197,37 +197,20 @@ same-twins {ws} {i} {j} c e h =
 pub comparable-most : {ws : List ℕ} {i j n : ℕ} → Comparable ws i j n → Comparable ws i j constantWord
 comparable-most c = record { few = omega arith; left = bounded-more constantWord (c .few) (c .left); right = bounded-more constantWord (c .few) (c .right); cleared = c .cleared }
 
--- the first of three that hold
-pub first-holds : (a b c : Bool) → (a && b && c) ≡ true → a ≡ true
-first-holds a b c h = and-left a b (and-left (a && b) c h)
-
-pub plain-pair : (s t : Term) {p q : Bool} → p ≡ plain s → q ≡ plain t → (p && q) ≡ true → (plain s && plain t) ≡ true
-plain-pair s t d e h = rw (← d, ← e) h
-
 -- the terms walked as trees
-module _ {ws : List ℕ} {i j : ℕ} {p q : Bool} (c : Comparable ws i j constantWord) (hp : p ≡ plain (termAt ws i)) (hq : q ≡ plain (termAt ws j)) (h : (p && q) ≡ true) where
-  pub plain-first : plain (termAt ws i) ≡ true
-  plain-first = sym hp ∙ and-left p q h
-
-  pub plain-second : plain (termAt ws j) ≡ true
-  plain-second = sym hq ∙ and-right p q h
-
+module _ {ws : List ℕ} {i j : ℕ} (c : Comparable ws i j constantWord) (h : (plain (termAt ws i) ≡ true) × (plain (termAt ws j) ≡ true)) where
   pub first-tree : Tree ws i constantWord
-  first-tree = record { formed = c .left .formed; within = c .left .within; plain-term = plain-first }
+  first-tree = record { formed = c .left .formed; within = c .left .within; plain-term = h .0 }
 
   pub second-tree : {us : List ℕ} {n : Bool} {t : Term} → Accumulated ws us n t → Tree us j constantWord
-  second-tree a = tree-kept a (record { formed = c .right .formed; within = c .right .within; plain-term = plain-second })
-
-  -- no masked or shifted term has a coefficient
-  pub plain-agree : (x : Term) → opaque x ≡ true → coefficientOf x (termAt ws i) ≡ coefficientOf x (termAt ws j)
-  plain-agree x o = plain-coefficient x (termAt ws i) o plain-first ∙ sym (plain-coefficient x (termAt ws j) o plain-second)
+  second-tree a = tree-kept a (record { formed = c .right .formed; within = c .right .within; plain-term = h .1 })
 
   pub reckoned-trees : {us vs : List ℕ} → Accumulated ws us false (termAt ws i) → Accumulated us vs true (termAt us j) → Reckoned ws vs (termAt ws i) (termAt ws j) true
   reckoned-trees a b = record {
     area = λ p l. b .area p l ∙ rw (a .area p l, c .cleared .word p l, term-kept a (c .right .formed));
     above = same-within areaWords hintBase (omega arith) (omega (arith, c .left .formed .shaped .words)) (above-both a b);
     long = b .long ∙ a .long;
-    agree = λ r. plain-agree;
+    agree = λ r x o. plain-coefficient x (termAt ws i) o (h .0) ∙ sym (plain-coefficient x (termAt ws j) o (h .1));
     differ = λ r. clash r refl;
   }
 

@@ -279,13 +279,16 @@ pub noted-kept : (us : List ℕ) (at w : ℕ) {vs : List ℕ} → hintBase ≤ a
 noted-kept us at w h e = subst (Same 0 hintBase us) (sym e) (set-before us at w 0 hintBase h)
 
 -- ---- both forms reckoned by the table
+pub both-plain : (s t : Term) {p q : Bool} → p ≡ plain s → q ≡ plain t → (p && q) ≡ true → (plain s ≡ true) × (plain t ≡ true)
+both-plain s t {p} {q} d e h = (sym d ∙ and-left p q h, sym e ∙ and-right p q h)
+
 module _ {ws us : List ℕ} {n : ℕ} {s t : Term} (a : Spread ws us n s t) where
-  pub reckoned-plain : (plain s && plain t) ≡ true → Reckoned ws us s t true
+  pub reckoned-plain : (plain s ≡ true) × (plain t ≡ true) → Reckoned ws us s t true
   reckoned-plain h = record {
     area = a .area;
-    above = record { word = λ p l q. a .none h .kept p l q (λ k m. absurd (omega arith)) };
+    above = record { word = λ p l q. a .none (rw (h .0, h .1)) .kept p l q (λ k m. absurd (omega arith)) };
     long = a .loaded .long;
-    agree = λ r x o. plain-coefficient x s o (and-left (plain s) (plain t) h) ∙ sym (plain-coefficient x t o (and-right (plain s) (plain t) h));
+    agree = λ r x o. plain-coefficient x s o (h .0) ∙ sym (plain-coefficient x t o (h .1));
     differ = λ r. clash r refl;
   }
 

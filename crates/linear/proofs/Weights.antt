@@ -1,7 +1,7 @@
 -- Laws of weights: what the functions over the table give to the area. Assumes nothing.
 use mathlib.Core.Path.{_≡_, refl, sym, ap, subst, _∙_}
 use mathlib.Core.Logic.{_≢_, ⊎-elim, _⊎_}
-use mathlib.Core.Bool.{Bool, true, false, _&&_, _||_}
+use mathlib.Core.Bool.{Bool, true, false, _&&_}
 use mathlib.Core.List.{List}
 use Prim.Native.Nat.{ℕ, zero, suc, _+_, _-_, _*_, _/_, _%_, _^_, _≤_, _<_, max}
 use native.Mathlib.Nat.{mul-le-mul}
@@ -9,8 +9,7 @@ use native.Mathlib.Omega.{arith}
 use native.Mathlib.Decide.{decLt, ℕ-discrete}
 use lib.ListN.{length, getD, set, length-set}
 use lib.Seq.{getD-set-same, getD-set-other}
-use lib.Dec.{eqb, ltb}
-use borrow.Author.Tests.{lt-ltb, ltb-true}
+use lib.Dec.{eqb}
 use denote.Enum.Declared.{tagOf as variant, declared}
 use Rattle.model.specs.Word.{addW, subW}
 use Rattle.model.specs.Term.{Term, constant, variable, sum, difference, mask, shift, closed, rootOf}
@@ -23,18 +22,10 @@ use Rattle.terms.specs.declared.Node.{Node}
 use Rattle.terms.specs.declared.Node.the-variants.{Constant, Variable, Sum, Difference, Mask, Shift}
 use Rattle.terms.proofs.Node.{enum as node-enum}
 use Rattle.terms.proofs.Table.{formed-less, node-order, node-built, marks-here, built-here, term-viewed, shaped-viewed}
-use Rattle.terms.proofs.Walks.{valued-at, tag-at, value-is-kept, no-value-zero}
+use Rattle.terms.proofs.Walks.{valued-at, value-is-kept, no-value-zero}
 use Rattle.linear.specs.Area.{formAt, Comparable}
 use Rattle.linear.specs.Weights.{opaque, Entry, inWord, ofTerm, Valid, numberAt, areaAt, givenTo, total, Allowed, Loaded, Weighed, Weighable, Passed, Spread}
 use Rattle.linear.proofs.Forms.{clash, form-word, number-word, number-sum, number-difference, variable-here, Single, single-variable, single-valued, valued-here, opaque-form, sub-only}
-
-first-false : (a b : Bool) → (a || b) ≡ false → a ≡ false
-first-false true b h = h
-first-false false b h = refl
-
-second-false : (a b : Bool) → (a || b) ≡ false → b ≡ false
-second-false true b h = clash h refl
-second-false false b h = h
 
 -- ---- products and sums modulo 2^32
 more-weight : (a x w f : ℕ) → a + (addW x w - 0) * f ≈ a + (x - 0) * f + w * f
@@ -337,21 +328,27 @@ module _ (us : List ℕ) (k : ℕ) {w : ℕ} (e : w ≡ valueAt us k) where
       go ws n only want l t g true o = value-kept (g .loaded) t k l (sym (valued-kept (g .loaded) t k l) ∙ o)
       go ws n only want l t g false o = sym e ∙ z ∙ sym (value-zero l t g o)
 
-  module _ {b : Bool} {tag : ℕ} (h : b ≡ valuedAt us k) (q : tag ≡ marksAt us k % 8) where
-    opaque-here : {ws : List ℕ} {n : ℕ} → k < n → Formed ws n → Loaded ws us n (suc k) → opaque (termAt ws k) ≡ ltb 3 tag
-    opaque-here {ws} l t g = rw (q, marks-kept g t k l) (ap (ltb 3) (sym (tag-at (t .shaped .marked k l))))
+  module _ {b : Bool} (h : b ≡ valuedAt us k) where
+    pub passed-valued : b ≡ true → Passed us us (suc k) k
+    passed-valued o = record { weighed = λ ws n only want l t g. pass-left l t g (λ d. absurd (d (value-kept (g .loaded) t k l (sym (valued-kept (g .loaded) t k l) ∙ sym h ∙ o)))) }
 
-    pub passed-kept : (b || ltb 3 tag) ≡ true → Passed us us (suc k) k
-    passed-kept o = record { weighed = λ ws n only want l t g. pass-left l t g (λ d. go ws n only want l t g d b refl) }
-      where
-        go : (ws : List ℕ) (n : ℕ) (only : Bool) (want : Entry → ℕ) (l : k < n) (t : Formed ws n) (g : Weighed ws us n (suc k) only want) → valueAt us k ≢ valueAt ws k → (c : Bool) → b ≡ c → opaque (termAt ws k) ≡ true
-        go ws n only want l t g d true x = absurd (d (value-kept (g .loaded) t k l (sym (valued-kept (g .loaded) t k l) ∙ sym h ∙ x)))
-        go ws n only want l t g d false x = opaque-here l t (g .loaded) ∙ (rw x at o)
-
-    module _ (z : w ≢ 0) (small : w < 2 ^ 32) (o : (b || ltb 3 tag) ≡ false) {node : Node} {vs : List ℕ} (v : node ≡ viewOf us k) (s : vs ≡ set us (place k + 1) 0) where
+    module _ (o : b ≡ false) {node : Node} (v : node ≡ viewOf us k) where
       open-at : valuedAt us k ≡ false
-      open-at = sym h ∙ first-false b (ltb 3 tag) o
+      open-at = sym h ∙ o
 
+      -- a constant holds a value
+      kept-as : (ws : List ℕ) (n : ℕ) (only : Bool) (want : Entry → ℕ) (l : k < n) (t : Formed ws n) (g : Weighed ws us n (suc k) only want) (m : Node) → node ≡ m → (shape m ≡ 0) ⊎ ((shape m ≡ 4) ⊎ (shape m ≡ 5)) → opaque (termAt ws k) ≡ true
+      kept-as ws n only want l t g (Constant c) a i = clash (open-here l t g open-at) (constant-valued (formed-less (suc k) l t) (sym (view-kept (g .loaded) t k l) ∙ sym v ∙ a))
+      kept-as ws n only want l t g (Variable x) a i = absurd (⊎-elim (λ r. omega arith) (⊎-elim (λ r. omega arith) (λ r. omega arith)) i)
+      kept-as ws n only want l t g (Sum x y) a i = absurd (⊎-elim (λ r. omega arith) (⊎-elim (λ r. omega arith) (λ r. omega arith)) i)
+      kept-as ws n only want l t g (Difference x y) a i = absurd (⊎-elim (λ r. omega arith) (⊎-elim (λ r. omega arith) (λ r. omega arith)) i)
+      kept-as ws n only want l t g (Mask x y) a i = rw (node-built (formed-less (suc k) l t) (v ∙ view-kept (g .loaded) t k l) a)
+      kept-as ws n only want l t g (Shift x y) a i = rw (node-built (formed-less (suc k) l t) (v ∙ view-kept (g .loaded) t k l) a)
+
+      pub passed-other : (shape node ≡ 0) ⊎ ((shape node ≡ 4) ⊎ (shape node ≡ 5)) → Passed us us (suc k) k
+      passed-other i = record { weighed = λ ws n only want l t g. pass-left l t g (λ d. kept-as ws n only want l t g node refl i) }
+
+    module _ (z : w ≢ 0) (small : w < 2 ^ 32) (o : b ≡ false) {node : Node} {vs : List ℕ} (v : node ≡ viewOf us k) (s : vs ≡ set us (place k + 1) 0) where
       word-at : valueAt us k < 2 ^ 32
       word-at = rw (← e) small
 
@@ -362,32 +359,17 @@ module _ (us : List ℕ) (k : ℕ) {w : ℕ} (e : w ≡ valueAt us k) where
         formed : Formed ws (suc k)
         formed = formed-less (suc k) l t
 
-        not-opaque : opaque (termAt ws k) ≡ false
-        not-opaque = opaque-here l t (g .loaded) ∙ second-false b (ltb 3 tag) o
-
         abbrev left-over : Entry → ℕ
-        left-over = rest l t g open-at word-at s
+        left-over = rest l t g (open-at o v) word-at s
 
         taken : Weighed ws vs n k only left-over
-        taken = weight-taken l t g open-at word-at s
+        taken = weight-taken l t g (open-at o v) word-at s
 
         allowed : Allowed only (termAt ws k)
-        allowed = bound-here l t g open-at (λ r. z (e ∙ r))
+        allowed = bound-here l t g (open-at o v) (λ r. z (e ∙ r))
 
         given : (q : Entry) → Valid q → left-over q + w * numberAt q (termAt ws k) ≈ want q
-        given q m = subst (λ x. left-over q + x * numberAt q (termAt ws k) ≈ want q) (sym e) (rest-weight l t g open-at word-at s q m)
-
-      -- a constant holds a value; a masked or shifted term keeps its weight
-      no-such : (ws : List ℕ) (n : ℕ) (only : Bool) (want : Entry → ℕ) (l : k < n) (t : Formed ws n) (g : Weighed ws us n (suc k) only want) (m : Node) → node ≡ m → (shape m ≡ 0) ⊎ ((shape m ≡ 4) ⊎ (shape m ≡ 5)) → ⊥
-      no-such ws n only want l t g (Constant c) a i = clash (open-here l t g open-at) (constant-valued (formed l t g) (sym (view l t g) ∙ a))
-      no-such ws n only want l t g (Variable x) a i = ⊎-elim (λ r. omega arith) (⊎-elim (λ r. omega arith) (λ r. omega arith)) i
-      no-such ws n only want l t g (Sum x y) a i = ⊎-elim (λ r. omega arith) (⊎-elim (λ r. omega arith) (λ r. omega arith)) i
-      no-such ws n only want l t g (Difference x y) a i = ⊎-elim (λ r. omega arith) (⊎-elim (λ r. omega arith) (λ r. omega arith)) i
-      no-such ws n only want l t g (Mask x y) a i = clash (not-opaque l t g) (rw (node-built (formed l t g) (view l t g) a))
-      no-such ws n only want l t g (Shift x y) a i = clash (not-opaque l t g) (rw (node-built (formed l t g) (view l t g) a))
-
-      pub passed-other : (shape node ≡ 0) ⊎ ((shape node ≡ 4) ⊎ (shape node ≡ 5)) → Passed us vs (suc k) k
-      passed-other i = record { weighed = λ ws n only want l t g. absurd (no-such ws n only want l t g node refl i) }
+        given q m = subst (λ x. left-over q + x * numberAt q (termAt ws k) ≈ want q) (sym e) (rest-weight l t g (open-at o v) word-at s q m)
 
       pub passed-variable : {x p : ℕ} {xs : List ℕ} → node ≡ Variable x → p ≡ x → xs ≡ set vs p (addW (getD vs p 0) w) → Passed us xs (suc k) k
       unfolding variableBound

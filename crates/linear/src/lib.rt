@@ -6,11 +6,12 @@ use terms::Node;
 use workspace::CONSTANT;
 use workspace::NOTES;
 ghost use mathlib.Core.Path.{_≡_};
+ghost use mathlib.Core.Bool.{true};
 ghost use Prim.Native.Nat.{suc, _*_, _%_, _^_, _≤_, _<_, max};
 ghost use lib.ListN.{length, getD, set};
 ghost use Rattle.model.specs.Linear.{sameForm};
 ghost use Rattle.workspace.specs.Layout.{constantWord, areaWords, hintBase, Same};
-ghost use Rattle.terms.specs.Table.{place, valuedAt, termAt, Shaped};
+ghost use Rattle.terms.specs.Table.{place, valuedAt, termAt, plain, Shaped};
 ghost use Rattle.linear.specs.Area.{signed, Tree, Accumulated, Taken, Emptied, Comparable};
 ghost use Rattle.linear.specs.Weights.{givenTo, weighsAt, Weighable, Passed, Partner, Settleable, Settled, Spread, Reckoned};
 ghost use Rattle.linear.specs.Comparison.{comparisonOf};
@@ -122,7 +123,7 @@ fn give(ws: &mut [u32], k: usize, w: u32)
     }
 }
 
-// Gives the weight of node k to its parts; a masked or shifted term, which has a tag above 3, keeps it.
+// Gives the weight of node k to its parts; a masked or shifted term keeps it.
 fn pass(ws: &mut [u32], k: usize)
     requires { ⌜ Weighable (now ws) (suc k) ⌝ }
     ensures { λ _. ⌜ Passed (now (ws .entry)) (now (ws .exit)) (suc k) k ⌝ }
@@ -131,18 +132,21 @@ fn pass(ws: &mut [u32], k: usize)
     if w == 0 {
         return;
     }
-    if terms::holds_value(ws, k) | (3 < terms::tag(ws, k)) {
+    if terms::holds_value(ws, k) {
         return;
     }
-    let node = terms::node_at(ws, k);
-    terms::set_value(ws, k, 0);
-    match node {
-        Node::Variable(v) => change(ws, fields::wide(v), w, false),
+    match terms::node_at(ws, k) {
+        Node::Variable(v) => {
+            terms::set_value(ws, k, 0);
+            change(ws, fields::wide(v), w, false);
+        }
         Node::Sum(l, r) => {
+            terms::set_value(ws, k, 0);
             give(ws, l, w);
             give(ws, r, w);
         }
         Node::Difference(l, r) => {
+            terms::set_value(ws, k, 0);
             give(ws, l, w);
             give(ws, r, fields::sub(0, w));
         }
@@ -248,18 +252,18 @@ fn partner(ws: &mut [u32], k: usize) -> usize
     found
 }
 
-// Adds the weight of node k to that of an earlier node with its term; false, if there is none. The weight of node k is zero afterwards.
-fn hand_over(ws: &mut [u32], k: usize) -> bool
-    requires { ⌜ Settleable (now ws) (suc k) ⌝ }
-    ensures { λ r. ⌜ Settled (now (ws .entry)) (now (ws .exit)) (suc k) k r ⌝ }
+// Adds the weight of node `last` to that of an earlier node with its term; false, if there is none. Its own weight is zero afterwards.
+fn hand_over(ws: &mut [u32], last: usize) -> bool
+    requires { ⌜ Settleable (now ws) (suc last) ⌝ }
+    ensures { λ r. ⌜ Settled (now (ws .entry)) (now (ws .exit)) (suc last) last r ⌝ }
 {
-    if !weighs(ws, k) {
+    if !weighs(ws, last) {
         return true;
     }
-    let w = terms::value(ws, k);
-    let j = partner(ws, k);
-    terms::set_value(ws, k, 0);
-    if j == k {
+    let w = terms::value(ws, last);
+    let j = partner(ws, last);
+    terms::set_value(ws, last, 0);
+    if j == last {
         return false;
     }
     terms::set_value(ws, j, fields::add(terms::value(ws, j), w));
@@ -283,23 +287,32 @@ fn settle(ws: &mut [u32], nodes: usize) -> bool
 
 // ---- the comparison
 
-// Adds the linear form of node i's term to the area, which is zero, and subtracts that of node j's. Whether each masked or shifted term
-// has the same coefficient in both.
+// Adds the linear form of node i's term to the area, which is zero, and subtracts that of node j's, where no mask or shift stands in them.
+fn reckon_plain(ws: &mut [u32], i: usize, j: usize)
+    requires { ⌜ Comparable (now ws) i j constantWord ⌝ }
+    requires { ⌜ (plain (termAt (now ws) i) ≡ true) × (plain (termAt (now ws) j) ≡ true) ⌝ }
+    ensures { λ _. ⌜ Reckoned (now (ws .entry)) (now (ws .exit)) (termAt (now (ws .entry)) i) (termAt (now (ws .entry)) j) true ⌝ }
+{
+    if terms::at_most(ws, i, SMALL) & terms::at_most(ws, j, SMALL) {
+        accumulate(ws, i, false);
+        accumulate(ws, j, true);
+    } else {
+        let nodes = larger(i, j) + 1;
+        reckon_by_table(ws, i, j, nodes);
+    }
+}
+
+// The same of any two terms. Whether each masked or shifted term has the same coefficient in both.
 fn reckon(ws: &mut [u32], i: usize, j: usize) -> bool
     requires { ⌜ Comparable (now ws) i j constantWord ⌝ }
     ensures { λ r. ⌜ Reckoned (now (ws .entry)) (now (ws .exit)) (termAt (now (ws .entry)) i) (termAt (now (ws .entry)) j) r ⌝ }
 {
-    let plain = terms::plain(ws, i) & terms::plain(ws, j);
-    if plain & terms::at_most(ws, i, SMALL) & terms::at_most(ws, j, SMALL) {
-        accumulate(ws, i, false);
-        accumulate(ws, j, true);
+    if terms::plain(ws, i) & terms::plain(ws, j) {
+        reckon_plain(ws, i, j);
         return true;
     }
     let nodes = larger(i, j) + 1;
     reckon_by_table(ws, i, j, nodes);
-    if plain {
-        return true;
-    }
     settle(ws, nodes)
 }
 

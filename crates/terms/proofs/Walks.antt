@@ -145,6 +145,12 @@ module _ {ws : List ℕ} {i m b : ℕ} (k : Marked ws i) (e : m ≡ marksAt ws i
   unfolding closedValue
   open-value h = rw (closed-by, ne-eqb b 1 h)
 
+pub held-value : {ws : List ℕ} {i v : ℕ} {b : Bool} → Formed ws (suc i) → b ≡ valuedAt ws i → b ≡ true → v ≡ valueAt ws i → Value v ≡ closedValue (termAt ws i)
+unfolding closedValue
+held-value {ws} {i} f d h e =
+    let c : closed (termAt ws i) ≡ true = and-left (closed (termAt ws i)) (plain (termAt ws i)) (sym (valued-at (marks-here (f .shaped))) ∙ sym d ∙ h) in
+    rw (c, e, value-is-kept f (sym d ∙ h))
+
 -- ---- the value of a term by those of its parts
 pub pair-eval : (tag : ℕ) (s t : Term) → 1 < tag → eval (λ v. 0) (operationOf tag s t) ≡ pairValue tag (eval (λ v. 0) s) (eval (λ v. 0) t)
 unfolding eval

@@ -470,6 +470,9 @@ pub fn evaluate(ws: &[u32], i: usize) -> Closed
     requires { ⌜ Formed (now ws) (suc i) ⌝ }
     ensures { λ r. ⌜ r ≡ closedValue (termAt (now (ws .entry)) i) ⌝ }
 {
+    if holds_value(ws, i) {
+        return Closed::Value(value(ws, i));
+    }
     if is_closed(marks(ws, i)) == 1 {
         Closed::Value(reduced(ws, i))
     } else {

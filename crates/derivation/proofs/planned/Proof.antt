@@ -3,7 +3,7 @@ use Rattle.model.specs.Rule.{premises}
 use Rattle.claims.specs.Rule.{ruleOf}
 use Rattle.logic_rules.specs.Sides.{reflexivePremises, sidePremises}
 use Rattle.arithmetic_rules.specs.Monotone.{monotonePremises}
-use Rattle.derivation.proofs.ChoiceLaws.{none-below, last-rule, argument-below, chosen, asks-region}
+use Rattle.derivation.proofs.ChoiceLaws.{region-rule, argument-below, chosen, asks-region}
 use borrow.Author.Needs.{needs}
 use Rattle.derivation.proofs.planned.Statement.{statement}
 use Rattle.derivation.proofs.planned.Tie as tie
@@ -24,7 +24,7 @@ contradicted-requires : tie.Need-contradicted-requires
 contradicted-requires c κs = argument-below (c .before .before .before .pre) 24 (c .match .keys23) refl
 
 right-of-requires : tie.Need-right-of-requires
-right-of-requires c κs = (none-below 22 _ (c .before .match .rest .0 .0 .0), c .if1 .taken)
+right-of-requires c κs = region-rule (c .before .before .before .pre) (c .match .rest .0 .0 .0 .0) (c .match .rest .0 .0 .0 .1) (c .match .rest .0 .0 .1) (c .match .rest .0 .1) (c .match .rest .1)
 
 returns : tie.Need-returns
 unfolding ruleOf
@@ -127,11 +127,11 @@ unfolding ruleOf
 returns-25 c = chosen (c .before .before .before .before .before .pre) 26 (c .before .before .match .keys25) (c .shift-at-most .ensures) (λ policy g j. (tt, refl))
 
 returns-26 : tie.Need-returns-26
-returns-26 c = chosen (c .before .before .before .before .before .before .before .before .before .pre) _ refl (c .before .before .in-region .ensures) (λ policy g j. (j .regions, asks-region policy g _ _ _ (none-below 22 _ (c .before .before .before .before .before .before .match .rest .0 .0 .0), c .before .before .before .before .before .if1 .taken) (c .before .before .before .before .right-of .ensures)))
+unfolding ruleOf
+returns-26 c = chosen (c .before .before .before .before .before .pre) 27 (c .before .before .match .keys26) (c .shift-bounded .ensures) (λ policy g j. (tt, refl))
 
 returns-27 : tie.Need-returns-27
-unfolding ruleOf
-returns-27 c = chosen (c .before .before .before .before .before .before .pre) 27 (last-rule (c .before .before .before .before .before .before .pre) (c .before .before .if1 .left) (c .before .before .before .match .rest .0 .0 .1) (c .before .before .before .match .rest .0 .1) (c .before .before .before .match .rest .1)) (c .shift-bounded .ensures) (λ policy g j. (tt, refl))
+returns-27 c = chosen (c .before .before .before .before .before .before .before .before .pre) _ refl (c .before .before .in-region .ensures) (λ policy g j. (j .regions, asks-region policy g _ _ _ (region-rule (c .before .before .before .before .before .before .before .before .pre) (c .before .before .before .before .before .match .rest .0 .0 .0 .0) (c .before .before .before .before .before .match .rest .0 .0 .0 .1) (c .before .before .before .before .before .match .rest .0 .0 .1) (c .before .before .before .before .before .match .rest .0 .1) (c .before .before .before .before .before .match .rest .1)) (c .before .before .before .before .right-of .ensures)))
 
 pub planned-spec : {M : Type 1} → statement M
 planned-spec =
@@ -162,8 +162,8 @@ planned-spec =
     contradicted-requires
     (λ c κs. search needs)
     (λ c κs. search needs)
-    right-of-requires
     (λ c κs. search needs)
+    right-of-requires
     (λ c κs. search needs)
     (λ c. search needs)
     returns

@@ -1,14 +1,17 @@
 use Rattle.terms.proofs.Table.{marks-here}
-use Rattle.terms.proofs.Walks.{closed-value, open-value}
+use Rattle.terms.proofs.Walks.{held-value, closed-value, open-value}
 use borrow.Author.Needs.{needs}
 use Rattle.terms.proofs.evaluate.Statement.{statement}
 use Rattle.terms.proofs.evaluate.Tie as tie
 
 returns : tie.Need-returns
-returns c = closed-value (marks-here (c .before .before .before .before .before .pre .shaped)) (c .before .before .before .marks .ensures) (c .before .before .is-closed .ensures .0) (c .before .if1 .taken) (c .reduced .ensures)
+returns c = held-value (c .before .before .before .before .pre) (c .before .before .holds-value .ensures) (c .before .if1 .taken) (c .value .ensures)
 
 returns-2 : tie.Need-returns-2
-returns-2 c = open-value (marks-here (c .before .before .before .before .pre .shaped)) (c .before .before .marks .ensures) (c .before .is-closed .ensures .0) (c .if1 .left)
+returns-2 c = closed-value (marks-here (c .before .before .before .before .before .before .before .pre .shaped)) (c .before .before .before .marks .ensures) (c .before .before .is-closed .ensures .0) (c .before .if2 .taken) (c .reduced .ensures)
+
+returns-3 : tie.Need-returns-3
+returns-3 c = open-value (marks-here (c .before .before .before .before .before .before .pre .shaped)) (c .before .before .marks .ensures) (c .before .is-closed .ensures .0) (c .if2 .left)
 
 pub evaluate-spec : {M : Type 1} → statement M
 evaluate-spec =
@@ -16,6 +19,9 @@ evaluate-spec =
     (tie.spec
     (λ c κs. search needs)
     (λ c κs. search needs)
-    (λ c κs. search needs)
     returns
-    returns-2)
+    (λ c κs. search needs)
+    (λ c κs. search needs)
+    (λ c κs. search needs)
+    returns-2
+    returns-3)
