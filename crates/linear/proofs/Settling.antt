@@ -278,7 +278,11 @@ partner-kept p s = record { kept = s; alone = p .alone; paired = p .paired }
 pub noted-kept : (us : List ℕ) (at w : ℕ) {vs : List ℕ} → hintBase ≤ at → vs ≡ set us at w → Same 0 hintBase us vs
 noted-kept us at w h e = subst (Same 0 hintBase us) (sym e) (set-before us at w 0 hintBase h)
 
--- ---- both forms reckoned by the table
+-- ---- both forms
+-- the first of three that hold
+pub first-holds : (a b c : Bool) → (a && b && c) ≡ true → a ≡ true
+first-holds a b c h = and-left a b (and-left (a && b) c h)
+
 pub both-plain : (s t : Term) {p q : Bool} → p ≡ plain s → q ≡ plain t → (p && q) ≡ true → (plain s ≡ true) × (plain t ≡ true)
 both-plain s t {p} {q} d e h = (sym d ∙ and-left p q h, sym e ∙ and-right p q h)
 

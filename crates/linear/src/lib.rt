@@ -6,12 +6,11 @@ use terms::Node;
 use workspace::CONSTANT;
 use workspace::NOTES;
 ghost use mathlib.Core.Path.{_≡_};
-ghost use mathlib.Core.Bool.{true};
 ghost use Prim.Native.Nat.{suc, _*_, _%_, _^_, _≤_, _<_, max};
 ghost use lib.ListN.{length, getD, set};
 ghost use Rattle.model.specs.Linear.{sameForm};
 ghost use Rattle.workspace.specs.Layout.{constantWord, areaWords, hintBase, Same};
-ghost use Rattle.terms.specs.Table.{place, valuedAt, termAt, plain, Shaped};
+ghost use Rattle.terms.specs.Table.{place, valuedAt, termAt, Shaped};
 ghost use Rattle.linear.specs.Area.{signed, Tree, Accumulated, Taken, Emptied, Comparable};
 ghost use Rattle.linear.specs.Weights.{givenTo, weighsAt, Weighable, Passed, Partner, Settleable, Settled, Spread, Reckoned};
 ghost use Rattle.linear.specs.Comparison.{comparisonOf};
@@ -287,32 +286,23 @@ fn settle(ws: &mut [u32], nodes: usize) -> bool
 
 // ---- the comparison
 
-// Adds the linear form of node i's term to the area, which is zero, and subtracts that of node j's, where no mask or shift stands in them.
-fn reckon_plain(ws: &mut [u32], i: usize, j: usize)
-    requires { ⌜ Comparable (now ws) i j constantWord ⌝ }
-    requires { ⌜ (plain (termAt (now ws) i) ≡ true) × (plain (termAt (now ws) j) ≡ true) ⌝ }
-    ensures { λ _. ⌜ Reckoned (now (ws .entry)) (now (ws .exit)) (termAt (now (ws .entry)) i) (termAt (now (ws .entry)) j) true ⌝ }
-{
-    if terms::at_most(ws, i, SMALL) & terms::at_most(ws, j, SMALL) {
-        accumulate(ws, i, false);
-        accumulate(ws, j, true);
-    } else {
-        let nodes = larger(i, j) + 1;
-        reckon_by_table(ws, i, j, nodes);
-    }
-}
-
-// The same of any two terms. Whether each masked or shifted term has the same coefficient in both.
+// Adds the linear form of node i's term to the area, which is zero, and subtracts that of node j's. Whether each masked or shifted term has
+// the same coefficient in both.
 fn reckon(ws: &mut [u32], i: usize, j: usize) -> bool
     requires { ⌜ Comparable (now ws) i j constantWord ⌝ }
     ensures { λ r. ⌜ Reckoned (now (ws .entry)) (now (ws .exit)) (termAt (now (ws .entry)) i) (termAt (now (ws .entry)) j) r ⌝ }
 {
-    if terms::plain(ws, i) & terms::plain(ws, j) {
-        reckon_plain(ws, i, j);
+    let plain = terms::plain(ws, i) & terms::plain(ws, j);
+    if plain & terms::at_most(ws, i, SMALL) & terms::at_most(ws, j, SMALL) {
+        accumulate(ws, i, false);
+        accumulate(ws, j, true);
         return true;
     }
     let nodes = larger(i, j) + 1;
     reckon_by_table(ws, i, j, nodes);
+    if plain {
+        return true;
+    }
     settle(ws, nodes)
 }
 
