@@ -15,7 +15,7 @@ use Rattle.model.proofs.Terms.{with-tag}
 use Rattle.model.specs.declared.Comparison.the-variants.{Equal, Less, AtMost}
 use Rattle.terms.specs.Table.{termAt, Formed, Put}
 use Rattle.workspace.specs.Layout.{hintBase, Same}
-use Rattle.linear.specs.Area.{Comparable}
+use Rattle.forms.specs.Area.{Comparable}
 use Rattle.linear.specs.Comparison.{comparisonOf}
 use Rattle.linear.specs.declared.FormComparison.{FormComparison}
 use Rattle.linear.specs.declared.FormComparison.the-variants.{Same as SameForm, Different}

@@ -3,7 +3,7 @@ use mathlib.Core.List.{List}
 use Prim.Native.Nat.{ℕ, _≤_}
 use Rattle.model_laws.specs.Bounded.{ClaimBounded}
 use Rattle.workspace.specs.Layout.{mostVariables}
-use Rattle.linear.specs.Area.{Cleared}
+use Rattle.forms.specs.Area.{Cleared}
 use Rattle.claims.specs.Parts.{claimOf}
 use Rattle.claims.specs.declared.Claim.{Claim}
 

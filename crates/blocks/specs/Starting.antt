@@ -14,7 +14,7 @@ use Rattle.workspace.specs.Layout.{mostAssumptions, tableBase, Same}
 use Rattle.terms.specs.Table.{termAt, place, Formed, Space}
 use Rattle.term_reader.specs.Reader.{atomNodes}
 use Rattle.assumptions.specs.Area.{slot}
-use Rattle.linear.specs.Area.{Cleared}
+use Rattle.forms.specs.Area.{Cleared}
 use Rattle.rule_reader.specs.Opening.{registerNodes}
 use Rattle.paths.specs.declared.Path.{Path}
 use Rattle.blocks.specs.declared.Block.{Block}

@@ -6,7 +6,7 @@ use mathlib.Core.List.{List, _++_}
 use lib.ListN.{length, getD, take, drop, replicate, length-replicate, getD-replicate, List·getD-append}
 use lib.Seq.{length-take-le}
 use Rattle.workspace.specs.Layout.{areaWords}
-use Rattle.linear.specs.Area.{Cleared}
+use Rattle.forms.specs.Area.{Cleared}
 
 pub front-cleared : (w z : List ℕ) → areaWords ≤ length w → z ≡ replicate (length (take areaWords w)) 0 → Cleared (z ++ drop areaWords w)
 front-cleared w z h e =

@@ -21,7 +21,7 @@ ghost use Rattle.model.specs.Property.{Safe};
 ghost use Rattle.workspace.specs.Layout.{areaWords};
 ghost use Rattle.policy.specs.Policy.{policyOf, Checked};
 ghost use Rattle.header.specs.Headers.{Fits};
-ghost use Rattle.linear.specs.Area.{Cleared};
+ghost use Rattle.forms.specs.Area.{Cleared};
 ghost use Rattle.checker.specs.Checks.{routineVerdict, AnnotationsChecked};
 
 // Makes the words zero in which linear forms are compared.

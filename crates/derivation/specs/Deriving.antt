@@ -16,7 +16,7 @@ use Rattle.workspace.specs.Layout.{Same, mostVariables}
 use Rattle.terms.specs.Table.{place, Formed, Space}
 use Rattle.term_reader.specs.Reader.{RegisterTerms}
 use Rattle.assumptions.specs.Area.{listed, Listed}
-use Rattle.linear.specs.Area.{Cleared}
+use Rattle.forms.specs.Area.{Cleared}
 use Rattle.claims.specs.Parts.{claimOf, ClaimBelow}
 use Rattle.model_laws.specs.Bounded.{AtomBounded, ClaimBounded}
 use Rattle.claims.specs.Plan.{atomIn, premisesOf, PremiseBelow, newNodes, premiseAt}

@@ -22,7 +22,7 @@ use Rattle.model.specs.Atom.{mostAtoms}
 use Rattle.workspace.specs.Layout.{assumptionBase, Same}
 use Rattle.terms.specs.Table.{termAt}
 use Rattle.workspace.proofs.Frames.{same-within}
-use Rattle.linear.specs.Area.{Cleared}
+use Rattle.forms.specs.Area.{Cleared}
 use Rattle.annotations.specs.Annotations.{annotationAtPlace}
 use Rattle.goals.specs.Judging.{Reached, ReachedAfter, verdictAfter, JudgesTrace}
 use Rattle.paths.specs.Walking.{pathOf, NodeIn, Kept}

@@ -9,7 +9,7 @@ use Rattle.model.specs.Goals.{Trace}
 use Rattle.model.specs.Verdict.{verdict, refusing}
 use Rattle.model.specs.declared.Refusal.the-variants.{ProofLeft}
 use Rattle.model.specs.declared.Verdict.{Verdict}
-use Rattle.linear.specs.Area.{Cleared}
+use Rattle.forms.specs.Area.{Cleared}
 use Rattle.goals.specs.Judging.{ReachedAfter, JudgesTrace}
 use Rattle.jumps.specs.Setting.{Stands}
 use Rattle.goals.specs.declared.Progress.{Progress}

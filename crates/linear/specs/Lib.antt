@@ -1,3 +1,1 @@
-pub mod Area
-pub mod Weights
 pub mod Comparison

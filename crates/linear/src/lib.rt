@@ -1,18 +1,10 @@
-// Linear forms modulo 2^32 (rule 12), reckoned in the workspace's first words: word v for variable v, and one word for the constant.
-// They are all zero between uses. Small terms are walked as trees. For others each node of the table is visited once, from the last on:
-// where a node holds no value, that word, which is zero between uses, holds its weight, the number of times that the form of its term is to
-// be added. A masked or shifted term stands for itself: its weight stays, and nodes with the same term are brought together at the end.
-use terms::Node;
-use workspace::CONSTANT;
-use workspace::NOTES;
+// Comparison of linear forms modulo 2^32 (rule 12): small terms are walked as trees, others by the table.
 ghost use mathlib.Core.Path.{_≡_};
-ghost use Prim.Native.Nat.{suc, _*_, _%_, _^_, _≤_, _<_, max};
-ghost use lib.ListN.{length, getD, set};
 ghost use Rattle.model.specs.Linear.{sameForm};
-ghost use Rattle.workspace.specs.Layout.{constantWord, areaWords, hintBase, Same};
-ghost use Rattle.terms.specs.Table.{place, valuedAt, termAt, Shaped};
-ghost use Rattle.linear.specs.Area.{signed, Tree, Accumulated, Taken, Emptied, Comparable};
-ghost use Rattle.linear.specs.Weights.{givenTo, weighsAt, Weighable, Passed, Partner, Settleable, Settled, Spread, Reckoned};
+ghost use Rattle.workspace.specs.Layout.{constantWord, hintBase, Same};
+ghost use Rattle.terms.specs.Table.{termAt};
+ghost use Rattle.forms.specs.Area.{Comparable};
+ghost use Rattle.weights.specs.Weights.{Reckoned};
 ghost use Rattle.linear.specs.Comparison.{comparisonOf};
 
 // What two linear forms are to each other.
@@ -24,268 +16,6 @@ pub enum FormComparison {
 // Terms of at most so many nodes are walked as trees.
 const SMALL: u32 = 32;
 
-// Adds x to a word, or subtracts it.
-fn change(ws: &mut [u32], at: usize, x: u32, negative: bool)
-    requires { ⌜ at < length (now ws) ⌝ }
-    ensures { λ _. ⌜ now (ws .exit) ≡ set (now (ws .entry)) at (signed negative (getD (now (ws .entry)) at 0) x) ⌝ }
-{
-    if negative {
-        ws[at] = fields::sub(ws[at], x);
-    } else {
-        ws[at] = fields::add(ws[at], x);
-    }
-}
-
-// Adds the linear form of node i's term, in which no mask or shift stands, to the area, or subtracts it.
-fn accumulate(ws: &mut [u32], i: usize, negative: bool)
-    requires { ⌜ Tree (now ws) i constantWord ⌝ }
-    ensures { λ _. ⌜ Accumulated (now (ws .entry)) (now (ws .exit)) negative (termAt (now (ws .entry)) i) ⌝ }
-{
-    match terms::view(ws, i) {
-        Node::Constant(n) => change(ws, CONSTANT, n, negative),
-        Node::Variable(v) => change(ws, fields::wide(v), 1, negative),
-        Node::Sum(l, r) => {
-            accumulate(ws, l, negative);
-            accumulate(ws, r, negative);
-        }
-        Node::Difference(l, r) => {
-            accumulate(ws, l, negative);
-            accumulate(ws, r, !negative);
-        }
-        _ => {}
-    }
-}
-
-// A word, which is zero afterwards.
-fn take(ws: &mut [u32], at: usize) -> u32
-    requires { ⌜ at < length (now ws) ⌝ }
-    ensures { λ r. ⌜ (r ≡ getD (now (ws .entry)) at 0) × (now (ws .exit) ≡ set (now (ws .entry)) at 0) ⌝ }
-{
-    let word = ws[at];
-    ws[at] = 0;
-    word
-}
-
-// Whether the coefficients of the first variables are all zero; they are zero afterwards.
-fn empty_coefficients(ws: &mut [u32], variables: usize) -> bool
-    requires { ⌜ variables ≤ length (now ws) ⌝ }
-    ensures { λ r. ⌜ Taken (now (ws .entry)) (now (ws .exit)) variables r ⌝ }
-{
-    let mut zero = true;
-    let mut v = 0;
-    while v < variables {
-        zero = zero & (take(ws, v) == 0);
-        v += 1;
-    }
-    zero
-}
-
-// Whether the constant and the coefficients of the first variables are all zero; they are zero afterwards.
-fn empty(ws: &mut [u32], variables: usize) -> bool
-    requires { ⌜ (variables ≤ constantWord) × (areaWords ≤ length (now ws)) ⌝ }
-    ensures { λ r. ⌜ Emptied (now (ws .entry)) (now (ws .exit)) variables r ⌝ }
-{
-    let coefficients = empty_coefficients(ws, variables);
-    let constant = take(ws, CONSTANT) == 0;
-    constant & coefficients
-}
-
-// ---- by the table
-
-// The product modulo 2^32.
-fn product(a: u32, b: u32) -> u32
-    ensures { λ r. ⌜ r ≡ a * b % 2 ^ 32 ⌝ }
-{
-    ((a as u64) * (b as u64) % 4294967296) as u32
-}
-
-// The larger of two numbers.
-fn larger(a: usize, b: usize) -> usize
-    ensures { λ r. ⌜ r ≡ max a b ⌝ }
-{
-    if a < b {
-        return b;
-    }
-    a
-}
-
-// Adds w times the linear form of node k's term: to the constant where the node holds a value, else to the node's weight.
-fn give(ws: &mut [u32], k: usize, w: u32)
-    requires { ⌜ place (suc k) ≤ length (now ws) ⌝ }
-    ensures { λ _. ⌜ now (ws .exit) ≡ givenTo (valuedAt (now (ws .entry)) k) (now (ws .entry)) k w ⌝ }
-{
-    let value = terms::value(ws, k);
-    if terms::holds_value(ws, k) {
-        change(ws, CONSTANT, product(w, value), false);
-    } else {
-        terms::set_value(ws, k, fields::add(value, w));
-    }
-}
-
-// Gives the weight of node k to its parts; a masked or shifted term keeps it.
-fn pass(ws: &mut [u32], k: usize)
-    requires { ⌜ Weighable (now ws) (suc k) ⌝ }
-    ensures { λ _. ⌜ Passed (now (ws .entry)) (now (ws .exit)) (suc k) k ⌝ }
-{
-    let w = terms::value(ws, k);
-    if w == 0 {
-        return;
-    }
-    if terms::holds_value(ws, k) {
-        return;
-    }
-    match terms::node_at(ws, k) {
-        Node::Variable(v) => {
-            terms::set_value(ws, k, 0);
-            change(ws, fields::wide(v), w, false);
-        }
-        Node::Sum(l, r) => {
-            terms::set_value(ws, k, 0);
-            give(ws, l, w);
-            give(ws, r, w);
-        }
-        Node::Difference(l, r) => {
-            terms::set_value(ws, k, 0);
-            give(ws, l, w);
-            give(ws, r, fields::sub(0, w));
-        }
-        _ => {}
-    }
-}
-
-// Gives the weights of the first nodes to their parts, from the last node on.
-fn spread(ws: &mut [u32], nodes: usize)
-    requires { ⌜ Weighable (now ws) nodes ⌝ }
-    ensures { λ _. ⌜ Passed (now (ws .entry)) (now (ws .exit)) nodes 0 ⌝ }
-{
-    let mut k = nodes;
-    while 0 < k {
-        k -= 1;
-        pass(ws, k);
-    }
-}
-
-// Adds the linear form of node i's term to the area, which is zero, and subtracts that of node j's, node by node; both are among the first
-// nodes.
-fn reckon_by_table(ws: &mut [u32], i: usize, j: usize, nodes: usize)
-    requires { ⌜ Comparable (now ws) i j constantWord ⌝ }
-    requires { ⌜ nodes ≡ suc (max i j) ⌝ }
-    ensures { λ _. ⌜ Spread (now (ws .entry)) (now (ws .exit)) nodes (termAt (now (ws .entry)) i) (termAt (now (ws .entry)) j) ⌝ }
-{
-    give(ws, i, 1);
-    give(ws, j, 4294967295);
-    spread(ws, nodes);
-}
-
-// ---- masked and shifted terms
-
-// Whether node k has a weight.
-fn weighs(ws: &[u32], k: usize) -> bool
-    requires { ⌜ place (suc k) ≤ length (now ws) ⌝ }
-    ensures { λ r. ⌜ r ≡ weighsAt (now (ws .entry)) k ⌝ }
-{
-    (terms::value(ws, k) != 0) & !terms::holds_value(ws, k)
-}
-
-// What is noted of node k: a node that may have the same term.
-fn noted(ws: &[u32], k: usize) -> usize
-    requires { ⌜ Shaped (now ws) (suc k) ⌝ }
-    ensures { λ r. ⌜ r < 65536 ⌝ }
-{
-    let two = ws[NOTES + k / 2];
-    if k % 2 == 0 {
-        fields::wide(two % 65536)
-    } else {
-        fields::wide(two / 65536)
-    }
-}
-
-// Notes that node k may have the term of node j.
-fn note(ws: &mut [u32], k: usize, j: usize)
-    requires { ⌜ Shaped (now ws) (suc k) ⌝ }
-    requires { ⌜ j < k ⌝ }
-    ensures { λ _. ⌜ Same 0 hintBase (now (ws .entry)) (now (ws .exit)) ⌝ }
-{
-    let at = NOTES + k / 2;
-    let two = ws[at];
-    if k % 2 == 0 {
-        ws[at] = two / 65536 * 65536 + (j as u32);
-    } else {
-        ws[at] = two % 65536 + 65536 * (j as u32);
-    }
-}
-
-// The last node before k that has a weight and the term of node k; k, if there is none. Equal terms need not know of each other by twins.
-fn searched(ws: &[u32], k: usize) -> usize
-    requires { ⌜ Shaped (now ws) (suc k) ⌝ }
-    ensures { λ r. ⌜ Partner (now (ws .entry)) (now (ws .entry)) k r ⌝ }
-{
-    let mut j = k;
-    while 0 < j {
-        j -= 1;
-        if weighs(ws, j) {
-            if terms::equal(ws, j, k) {
-                return j;
-            }
-        }
-    }
-    k
-}
-
-// A node before k that has the term of node k, the noted one if it has it; k, if none with a weight has it. What is found is noted, so that
-// each node is searched for once, however often forms are compared.
-fn partner(ws: &mut [u32], k: usize) -> usize
-    requires { ⌜ Shaped (now ws) (suc k) ⌝ }
-    ensures { λ r. ⌜ Partner (now (ws .entry)) (now (ws .exit)) k r ⌝ }
-{
-    let known = noted(ws, k);
-    if known < k {
-        if terms::equal(ws, known, k) {
-            return known;
-        }
-    }
-    let found = searched(ws, k);
-    if found < k {
-        note(ws, k, found);
-    }
-    found
-}
-
-// Adds the weight of node `last` to that of an earlier node with its term; false, if there is none. Its own weight is zero afterwards.
-fn hand_over(ws: &mut [u32], last: usize) -> bool
-    requires { ⌜ Settleable (now ws) (suc last) ⌝ }
-    ensures { λ r. ⌜ Settled (now (ws .entry)) (now (ws .exit)) (suc last) last r ⌝ }
-{
-    if !weighs(ws, last) {
-        return true;
-    }
-    let w = terms::value(ws, last);
-    let j = partner(ws, last);
-    terms::set_value(ws, last, 0);
-    if j == last {
-        return false;
-    }
-    terms::set_value(ws, j, fields::add(terms::value(ws, j), w));
-    true
-}
-
-// Whether the weights that are left come to zero for each term, from the last of the first nodes on; they are all zero afterwards.
-fn settle(ws: &mut [u32], nodes: usize) -> bool
-    requires { ⌜ Settleable (now ws) nodes ⌝ }
-    ensures { λ r. ⌜ Settled (now (ws .entry)) (now (ws .exit)) nodes 0 r ⌝ }
-{
-    let mut zero = true;
-    let mut k = nodes;
-    while 0 < k {
-        k -= 1;
-        let handed = hand_over(ws, k);
-        zero = zero & handed;
-    }
-    zero
-}
-
-// ---- the comparison
-
 // Adds the linear form of node i's term to the area, which is zero, and subtracts that of node j's. Whether each masked or shifted term has
 // the same coefficient in both.
 fn reckon(ws: &mut [u32], i: usize, j: usize) -> bool
@@ -294,16 +24,16 @@ fn reckon(ws: &mut [u32], i: usize, j: usize) -> bool
 {
     let plain = terms::plain(ws, i) & terms::plain(ws, j);
     if plain & terms::at_most(ws, i, SMALL) & terms::at_most(ws, j, SMALL) {
-        accumulate(ws, i, false);
-        accumulate(ws, j, true);
+        forms::accumulate(ws, i, false);
+        forms::accumulate(ws, j, true);
         return true;
     }
-    let nodes = larger(i, j) + 1;
-    reckon_by_table(ws, i, j, nodes);
+    let nodes = weights::larger(i, j) + 1;
+    weights::reckon_by_table(ws, i, j, nodes);
     if plain {
         return true;
     }
-    settle(ws, nodes)
+    weights::settle(ws, nodes)
 }
 
 // Compares the linear forms of the terms of nodes i and j, whose variables are among the first variables. The workspace is as it was, but for
@@ -317,7 +47,7 @@ pub fn compare(ws: &mut [u32], i: usize, j: usize, variables: usize) -> FormComp
         return FormComparison::Same;
     }
     let opaque = reckon(ws, i, j);
-    let zero = empty(ws, variables);
+    let zero = forms::empty(ws, variables);
     if zero & opaque {
         FormComparison::Same
     } else {

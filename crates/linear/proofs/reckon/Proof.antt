@@ -1,6 +1,6 @@
 use native.Mathlib.Omega.{arith}
-use Rattle.linear.proofs.Laws.{first-tree, second-tree, reckoned-trees}
-use Rattle.linear.proofs.Settling.{first-holds, both-plain, reckoned-plain, spread-settleable, reckoned-settled}
+use Rattle.weights.proofs.Settling.{both-plain, reckoned-plain, spread-settleable, reckoned-settled}
+use Rattle.linear.proofs.Laws.{first-holds, first-tree, second-tree, reckoned-trees}
 use borrow.Author.Needs.{needs}
 use Rattle.linear.proofs.reckon.Statement.{statement}
 use Rattle.linear.proofs.reckon.Tie as tie
