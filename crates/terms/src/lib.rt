@@ -453,16 +453,16 @@ fn reduced(ws: &[u32], i: usize) -> u32
     if holds_value(ws, i) {
         return value(ws, i);
     }
-    let tag = tag(ws, i);
-    if tag < 2 {
+    let kind = tag(ws, i);
+    if kind < 2 {
         return 0;
     }
     let a = reduced(ws, first(ws, i));
     let other = second(ws, i);
-    if 4 < tag {
+    if 4 < kind {
         return fields::shift(a, other as u32);
     }
-    applied(tag, a, reduced(ws, other))
+    applied(kind, a, reduced(ws, other))
 }
 
 // The value of node i's term where it has no variable: at once where it is kept.
