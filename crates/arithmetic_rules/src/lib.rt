@@ -146,7 +146,7 @@ pub fn no_overflow(ws: &mut [u32], claim: Claim, top: usize) -> Plan
     let Pair::Nodes(p, b) = parts::operands(ws, right, Operation::Sum) else {
         return plans::unfit(top);
     };
-    if terms::same(ws, a, p) {
+    if term_walks::same(ws, a, p) {
         terms::put_constant(ws, top, 4294967295);
         terms::put_difference(ws, top + 1, top, b);
         plans::one(plans::compared(Comparison::AtMost, a, top + 1), top + 2)

@@ -23,7 +23,7 @@ pub fn mask_at_most(ws: &[u32], claim: Claim, top: usize) -> Plan
     let Pair::Nodes(_, b) = parts::masked(ws, left) else {
         return plans::unfit(top);
     };
-    if terms::same(ws, b, right) {
+    if term_walks::same(ws, b, right) {
         plans::none(top)
     } else {
         plans::unfit(top)
@@ -42,7 +42,7 @@ pub fn shift_at_most(ws: &[u32], claim: Claim, top: usize) -> Plan
     let Shift::By(_, a) = parts::shifted(ws, left) else {
         return plans::unfit(top);
     };
-    if terms::same(ws, a, right) {
+    if term_walks::same(ws, a, right) {
         plans::none(top)
     } else {
         plans::unfit(top)

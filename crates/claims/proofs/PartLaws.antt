@@ -14,8 +14,8 @@ use Rattle.model.specs.Atom.{tagOf, eqAtom}
 use Rattle.model.specs.Rule.{atomOf, sidesOf, pairOf, sumOf, differenceOf, maskOf, shiftOf, equalPairs, congruent}
 use Rattle.model.specs.declared.Comparison.{Comparison}
 use Rattle.terms.specs.Table.{low, high, partsAt, valueAt, marksAt, nodeOfTag, viewOf, build, termAt, Formed}
-use Rattle.terms.proofs.Table.{marks-here, built-here, shift-tag}
-use Rattle.terms.proofs.Walks.{tag-at, reduced-first, reduced-second}
+use Rattle.terms.proofs.Table.{marks-here, built-here, shift-tag, first-part, second-part}
+use Rattle.terms.proofs.Facts.{tag-at}
 use Rattle.assumptions.specs.Area.{entryOf, atomIn}
 use Rattle.assumptions.specs.declared.Assumption.{Assumption}
 use Rattle.claims.specs.Parts.{Sides, Accesses, Operands, Shifts, Congruent}
@@ -102,14 +102,14 @@ module _ {ws : List ℕ} {i : ℕ} (f : Formed ws (suc i)) {tag : ℕ} (q : tag 
 
   module _ {a b : ℕ} (d : a ≡ low (partsAt ws i)) (e : (b ≡ high (partsAt ws i)) × (b < 65536)) where
     pub pair-nodes : {t : ℕ} → (1 < t) × (t < 5) → tag ≡ t → Operands ws i (Nodes a b) (pairOf t (termAt ws i))
-    pair-nodes {t} h g = record { is = rw (d, e .0, term-here, ← g) (pair-parts (termAt ws) tag (partsAt ws i) (valueAt ws i) (omega arith, omega arith)); below = (reduced-first f q d (omega arith), reduced-second f q (e .0) (omega arith) (omega arith)) }
+    pair-nodes {t} h g = record { is = rw (d, e .0, term-here, ← g) (pair-parts (termAt ws) tag (partsAt ws i) (valueAt ws i) (omega arith, omega arith)); below = (first-part (f .shaped) q d (omega arith), second-part (f .shaped) q (e .0) (omega arith, omega arith)) }
 
     shift-here : 4 < tag → termAt ws i ≡ shift b (termAt ws a)
     shift-here h = rw (d, e .0, term-here, shift-tag tag (partsAt ws i) (valueAt ws i) h)
 
     pub shift-node : tag ≡ 5 → Shifts ws i (By b a)
     unfolding shiftOf _>>=_ check
-    shift-node h = record { is = rw (shift-here (omega arith)); below = reduced-first f q d (omega arith) }
+    shift-node h = record { is = rw (shift-here (omega arith)); below = first-part (f .shaped) q d (omega arith) }
 
   pub constant-is : (k : ℕ) {v : ℕ} → v ≡ valueAt ws i → (eqb tag 0 && eqb v k) ≡ eqTerm (termAt ws i) (constant k)
   constant-is k d = rw (d, term-here) (constant-by (termAt ws) tag (partsAt ws i) (valueAt ws i) k)
@@ -147,7 +147,7 @@ module _ {ws : List ℕ} {i j : ℕ} (f : Formed ws (suc i)) (g : Formed ws (suc
     one-tag = let x = neither-test (ltb m 2) (not (eqb n m)) o in (ltb-false m 2 (x .0), eqb-true n m (not-false (eqb n m) (x .1)))
 
     first-nodes : (a < i) × (c < j)
-    first-nodes = (reduced-first f q ea (one-tag .0), reduced-first g r ec (rw (one-tag .1) (one-tag .0)))
+    first-nodes = (first-part (f .shaped) q ea (one-tag .0), first-part (g .shaped) r ec (rw (one-tag .1) (one-tag .0)))
 
     pub congruence-pairs : m < 5 → Congruent ws i j (Pairs a b c d)
     unfolding equalPairs _>>=_

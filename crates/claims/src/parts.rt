@@ -173,7 +173,7 @@ pub fn is_assumption(ws: &[u32], k: usize, kind: Comparison, left: usize, right:
     let known = assumptions::get(ws, k);
     let own = known.kind;
     let same_kind = kinds::tag(kind) == kinds::tag(own);
-    let same_left = terms::same(ws, left, known.left);
-    let same_right = terms::same(ws, right, known.right);
+    let same_left = term_walks::same(ws, left, known.left);
+    let same_right = term_walks::same(ws, right, known.right);
     same_kind & same_left & same_right
 }

@@ -1,4 +1,5 @@
-// Samples at the limits of document 01: each is built, judged by the checker, and printed with its answer. The buffers are lent.
+// Samples at the limits of packages and workspaces: each is built, judged by the checker, and printed with its answer. The buffers
+// are lent.
 use libc::STDOUT_FILENO;
 
 // Checks a package under a policy and prints the answer after the sample's name.
@@ -16,7 +17,7 @@ fn show(name: &[u8], workspace: &mut [u32], policy: &[u8], routine: &[u8]) {
 }
 
 // Checks the package of so many bytes at the start of a buffer under the policy of so many bytes at the start of another.
-fn show_parts(
+pub fn show_parts(
     name: &[u8],
     workspace: &mut [u32],
     policy: &[u8],
@@ -38,50 +39,6 @@ pub fn instruction_counts(workspace: &mut [u32], policy: &mut [u8], routine: &mu
     show_parts(b"n = 256", workspace, policy, p, routine, r);
     let r = sample_bytes::assignments(routine, 256);
     show_parts(b"n = 257", workspace, policy, p, routine, r);
-}
-
-// Memory sizes 16,384 and 16,385, with a region of the last word.
-pub fn memory_sizes(workspace: &mut [u32], policy: &mut [u8], routine: &mut [u8]) {
-    let r = sample_bytes::assignments(routine, 0);
-    let p = sample_bytes::policy(policy, 16384, 1, 16383, 1);
-    show_parts(b"M = 16384", workspace, policy, p, routine, r);
-    let p = sample_bytes::policy(policy, 16385, 1, 16384, 1);
-    show_parts(b"M = 16385", workspace, policy, p, routine, r);
-}
-
-// A region that ends one word past the memory.
-pub fn region_past_memory(workspace: &mut [u32], policy: &mut [u8], routine: &mut [u8]) {
-    let r = sample_bytes::assignments(routine, 0);
-    let p = sample_bytes::policy(policy, 16384, 1, 16383, 2);
-    show_parts(b"region past M", workspace, policy, p, routine, r);
-}
-
-// Derivations 32 and 33 levels deep.
-pub fn depths(workspace: &mut [u32], policy: &mut [u8], routine: &mut [u8]) {
-    let p = sample_bytes::policy(policy, 1, 1, 0, 1);
-    let r = sample_bytes::deep(routine, 30);
-    show_parts(b"depth 32", workspace, policy, p, routine, r);
-    let r = sample_bytes::deep(routine, 31);
-    show_parts(b"depth 33", workspace, policy, p, routine, r);
-}
-
-// Expressions of 31 nodes, and with a 32nd.
-pub fn node_counts(workspace: &mut [u32], policy: &mut [u8], routine: &mut [u8]) {
-    let r = sample_bytes::assignments(routine, 0);
-    let p = sample_bytes::assuming(policy, 15);
-    show_parts(b"31 nodes", workspace, policy, p, routine, r);
-    let p = sample_bytes::assuming(policy, 16);
-    show_parts(b"32nd node", workspace, policy, p, routine, r);
-}
-
-// Register terms of 255 nodes, and over.
-pub fn term_sizes(workspace: &mut [u32], policy: &mut [u8], routine: &mut [u8]) {
-    let p = sample_bytes::policy(policy, 1, 8, 0, 1);
-    let r = sample_bytes::doublings(routine, 7);
-    show_parts(b"255 nodes", workspace, policy, p, routine, r);
-    let p = sample_bytes::policy(policy, 1, 9, 0, 1);
-    let r = sample_bytes::doublings(routine, 8);
-    show_parts(b"511 nodes", workspace, policy, p, routine, r);
 }
 
 // The longest package, and one byte more.

@@ -1,7 +1,7 @@
 -- Linear forms by the word: sums and differences, the same form. Assumes nothing.
 use mathlib.Core.Path.{_≡_, refl, sym, ap, _∙_}
 use mathlib.Core.Logic.{_≢_}
-use mathlib.Core.Bool.{Bool, true, false, not, _&&_}
+use mathlib.Core.Bool.{Bool, true, false, not, _&&_, and-true, and-false}
 use mathlib.Core.List.{List}
 use Prim.Native.Nat.{ℕ, zero, suc, _+_, _*_, _%_, _^_, _≤_, _<_}
 use native.Mathlib.Omega.{arith}
@@ -17,7 +17,7 @@ use Rattle.model.proofs.Indeterminates.{same-everywhere, same-in-list}
 use Rattle.model.proofs.Words.{_≈_, same-word, add-cong, add-cancel, add-plain, sub-plain, add-below, sub-below}
 use Rattle.workspace.specs.Layout.{constantWord, areaWords}
 use Rattle.terms.specs.Table.{plain, valueOf}
-use Rattle.terms.proofs.Walks.{kept-value}
+use Rattle.terms.proofs.Facts.{kept-value}
 use Rattle.forms.specs.Area.{formIf, formAt, signed, allZero}
 use Rattle.forms.specs.Entries.{opaque, Entry, inWord, ofTerm, Valid, numberAt, Unlike}
 
@@ -311,14 +311,6 @@ module _ (s t : Term) where
 pub same-form-refl : (t : Term) → sameForm t t ≡ true
 unfolding sameForm
 same-form-refl t = rw (eq-eqb (constantOf t) (constantOf t) refl, alike-true t t (λ x. refl))
-
-and-false : (b : Bool) → (b && false) ≡ false
-and-false true = refl
-and-false false = refl
-
-and-true : (b : Bool) → (b && true) ≡ b
-and-true true = refl
-and-true false = refl
 
 -- the words that hold the first term's form less the second's
 module _ (s t : Term) (ws : List ℕ) (words : (k : ℕ) → k < areaWords → getD ws k 0 ≡ subW (addW 0 (formAt k s)) (formAt k t)) where

@@ -16,8 +16,8 @@ use Rattle.model.specs.declared.Comparison.the-variants.{Less}
 use Rattle.model.specs.Verdict.{leastWorkspace}
 use Rattle.workspace.specs.Layout.{mostAssumptions}
 use Rattle.terms.specs.Table.{termAt, Formed}
-use Rattle.terms.specs.Closed.{valueIf, closedValue}
-use Rattle.terms.specs.declared.Closed.the-variants.{Value, Open}
+use Rattle.term_walks.specs.Closed.{valueIf, closedValue}
+use Rattle.term_walks.specs.declared.Closed.the-variants.{Value, Open}
 use Rattle.assumptions.specs.Area.{entryOf, atomIn as entryAtom, listed, Listed}
 use Rattle.assumptions.proofs.Laws.{listed-at, listed-past}
 use Rattle.claims.specs.Parts.{claimOf, ClaimBelow, Sides}

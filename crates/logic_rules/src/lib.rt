@@ -5,7 +5,7 @@ use claims::parts;
 use claims::parts::Pair;
 use claims::plans;
 use model::Comparison;
-use terms::Closed;
+use term_walks::Closed;
 ghost use mathlib.Core.List.{List};
 ghost use Prim.Native.Nat.{ℕ, _<_, _≤_};
 ghost use lib.ListN.{length};
@@ -59,7 +59,7 @@ pub fn reflexive(ws: &[u32], claim: Claim, kind: Comparison, top: usize) -> Plan
     let Pair::Nodes(a, b) = parts::sides(claim, kind) else {
         return plans::unfit(top);
     };
-    if terms::same(ws, a, b) {
+    if term_walks::same(ws, a, b) {
         plans::none(top)
     } else {
         plans::unfit(top)
@@ -75,10 +75,10 @@ pub fn evaluated(ws: &[u32], claim: Claim, top: usize) -> Plan
     let Claim::Atom(kind, left, right) = claim else {
         return plans::unfit(top);
     };
-    let Closed::Value(a) = terms::evaluate(ws, left) else {
+    let Closed::Value(a) = term_walks::evaluate(ws, left) else {
         return plans::unfit(top);
     };
-    let Closed::Value(b) = terms::evaluate(ws, right) else {
+    let Closed::Value(b) = term_walks::evaluate(ws, right) else {
         return plans::unfit(top);
     };
     if parts::holds(kind, a, b) {

@@ -6,6 +6,7 @@ use mathlib.Core.List.{List, [], _∷_}
 use lib.ListN.{getElem?}
 use lib.Dec.{leb, ltb, eqb}
 use Rattle.model.specs.Result.{Fit, misfit, value, _>>=_, check, found}
+use Rattle.model.specs.Expression.{mostCount}
 use Rattle.model.specs.declared.Instruction.{Instruction}
 use Rattle.model.specs.declared.Instruction.the-variants.{Set, Add, AddImmediate, Subtract, Load, Store, Jump, JumpLess, JumpEqual, Return, Mask, Shift}
 
@@ -19,7 +20,7 @@ unused f = eqb f 0
 
 -- "an i above 31 counts as a bad instruction (8)"
 abbrev pub shiftCount : ℕ → Bool
-shiftCount i = leb i 31
+shiftCount i = leb i mostCount
 
 -- the instruction, if its fields are as they should be
 unfoldable pub provided : Bool → Instruction → Fit Instruction

@@ -90,11 +90,10 @@ pub shift-room : {ws : List ℕ} {path : Path} {a x i : ℕ} → RoomFor ws path
 shift-room {a = a} g h e k = (first-room g .0, (first-room g .1, (k, rw e (g .path-in .held a h .below))))
 
 -- the room for the second of two
-pub second-room : {ws us : List ℕ} {path : Path} {a x tag : ℕ} {t : Term} → RoomFor ws path 1 → a < registerCount → x ≡ getD (path .registers) a 0 → (1 < tag) × (tag < 5) → length us ≡ length ws → Put ws us (path .top) t
-    → Formed us (path .top + 1) × (Space us (path .top + 1) 1 × (((x < path .top + 1) × (path .top < path .top + 1)) × ((1 < tag) × (tag < 5))))
-second-room {path = path} {a} g h e k long u =
-    let inside : getD (path .registers) a 0 < path .top = g .path-in .held a h .below in
-    (rw (add-one (path .top)) (u .formed), (record { words = omega (arith, g .words); fits = omega (arith, g .nodes) }, ((omega arith, omega arith), k)))
+pub second-room : {ws us : List ℕ} {path : Path} {a x : ℕ} {t : Term} → RoomFor ws path 1 → a < registerCount → x ≡ getD (path .registers) a 0 → length us ≡ length ws → Put ws us (path .top) t
+    → Formed us (path .top + 1) × Space us (path .top + 1) 1 × (x < path .top)
+second-room {path = path} {a} g h e long u =
+    (rw (add-one (path .top)) (u .formed), record { words = omega (arith, g .words); fits = omega (arith, g .nodes) }, rw e (g .path-in .held a h .below))
 
 -- a constant, and an operation on a register's term and it
 module _ {ws us vs : List ℕ} {path : Path} (w : PathIn ws path) (long : length us ≡ length ws) (longer : length vs ≡ length us)

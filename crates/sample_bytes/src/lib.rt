@@ -57,15 +57,28 @@ pub fn policy(out: &mut [u8], memory: u32, limit: u32, base: u32, size: u8) -> u
     word(out, at, size as u32 * 4 + 3)
 }
 
-// A policy that assumes c + (c + (.. + c)) = c, with so many sums on the left.
-pub fn assuming(out: &mut [u8], sums: u32) -> usize {
+// A policy up to the sides of its one atom, an equality that it assumes.
+fn assuming_equal(out: &mut [u8]) -> usize {
     let at = sizes(out, 1, 1, 1);
     let at = word(out, at, 0);
     let at = word(out, at, 7);
-    let at = byte(out, at, 0);
+    byte(out, at, 0)
+}
+
+// A policy that assumes c + (c + (.. + c)) = c, with so many sums on the left.
+pub fn assuming(out: &mut [u8], sums: u32) -> usize {
+    let at = assuming_equal(out);
     let at = repeat(out, at, 2, sums);
     let at = repeat(out, at, 0, 5 * (sums % 100) + 5);
     repeat(out, at, 0, 5)
+}
+
+// A policy that assumes c >> count = c, where c is 0.
+pub fn assuming_shift(out: &mut [u8], count: u8) -> usize {
+    let at = assuming_equal(out);
+    let at = byte(out, at, 5);
+    let at = byte(out, at, count);
+    repeat(out, at, 0, 10)
 }
 
 // So many assignments 0 := 0, then a return; the proof is rule 2.
@@ -95,6 +108,19 @@ pub fn doublings(out: &mut [u8], count: u32) -> usize {
     let at = repeat(out, at, 1, 4 * count);
     let at = word(out, at, 9);
     let at = repeat(out, at, 0, 4 * count + 4);
+    byte(out, at, 2)
+}
+
+// So many times 1 := 1 + 1, then 1 := 1 >> by, then a return; the proof is rule 2.
+pub fn shifted(out: &mut [u8], count: u32, by: u32) -> usize {
+    let count = count % 1000;
+    let at = header(out, count + 2, 1);
+    let at = repeat(out, at, 1, 4 * count);
+    let at = word(out, at, 0x0001010b);
+    let at = word(out, at, 9);
+    let at = repeat(out, at, 0, 4 * count);
+    let at = word(out, at, by);
+    let at = word(out, at, 0);
     byte(out, at, 2)
 }
 

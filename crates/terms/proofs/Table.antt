@@ -8,23 +8,38 @@ use native.Mathlib.Numerals.{add-one}
 use native.Mathlib.Omega.{arith}
 use lib.ListN.{length, getD, length-append, List·getD-append}
 use lib.Seq.{getD-at}
-use Rattle.model.specs.Term.{constant, sum, difference, mask, shift}
+use Rattle.model.specs.Term.{Term, constant, sum, difference, mask, shift}
 use Rattle.model.specs.Verdict.{leastWorkspace}
 use Rattle.workspace.specs.Layout.{tableBase, mostTableNodes, Same, stored}
-use Rattle.terms.specs.Table.{low, high, place, valueAt, marksAt, nodeOfTag, viewOf, build, termsBelow, termAt, termOf, valueOf, InOrder, Marked, Shaped, Formed, Put, Space, Fits, Twinned}
+use Rattle.terms.specs.Table.{low, high, place, partsAt, valueAt, marksAt, nodeOfTag, viewOf, build, operationOf, termsBelow, termAt, termOf, valueOf, InOrder, Marked, Shaped, Formed, Put, Space, Fits, Twinned}
 use Rattle.terms.specs.declared.Node.{Node}
 use Rattle.terms.specs.declared.Node.the-variants.{Constant, Variable, Sum, Difference, Mask, Shift}
 use Rattle.workspace.proofs.Frames.{same-trans, same-within, stored-length, stored-before, stored-first, stored-second, stored-third}
 
 -- ---- one node
--- a tag above 4 is a shift's
+-- what holds of each tag of an operation: 2, 3 and 4, and those above, which are a shift's
+pub at-operation : (P : ℕ → Type 0) → P 2 → P 3 → P 4 → ((t : ℕ) → P (suc (suc (suc (suc (suc t)))))) → (t : ℕ) → 1 < t → P t
+at-operation P a b c d zero h = absurd (omega arith)
+at-operation P a b c d (suc zero) h = absurd (omega arith)
+at-operation P a b c d (suc (suc zero)) h = a
+at-operation P a b c d (suc (suc (suc zero))) h = b
+at-operation P a b c d (suc (suc (suc (suc zero)))) h = c
+at-operation P a b c d (suc (suc (suc (suc (suc t))))) h = d t
+
+-- of each tag of two parts
+pub at-pair : (P : ℕ → Type 0) → P 2 → P 3 → P 4 → (t : ℕ) → (1 < t) × (t < 5) → P t
+at-pair P a b c t h = at-operation (λ t. t < 5 → P t) (λ k. a) (λ k. b) (λ k. c) (λ t k. absurd (omega arith)) t (h .0) (h .1)
+
+-- of each tag of a shift
+pub at-shift : (P : ℕ → Type 0) → ((t : ℕ) → P (suc (suc (suc (suc (suc t)))))) → (t : ℕ) → 4 < t → P t
+at-shift P d t h = at-operation (λ t. 4 < t → P t) (λ k. absurd (omega arith)) (λ k. absurd (omega arith)) (λ k. absurd (omega arith)) (λ t k. d t) t (omega arith) h
+
 pub shift-tag : (t p v : ℕ) → 4 < t → nodeOfTag t p v ≡ Shift (high p) (low p)
-shift-tag zero p v h = absurd (omega arith)
-shift-tag (suc zero) p v h = absurd (omega arith)
-shift-tag (suc (suc zero)) p v h = absurd (omega arith)
-shift-tag (suc (suc (suc zero))) p v h = absurd (omega arith)
-shift-tag (suc (suc (suc (suc zero)))) p v h = absurd (omega arith)
-shift-tag (suc (suc (suc (suc (suc t))))) p v h = refl
+shift-tag t p v = at-shift (λ t. nodeOfTag t p v ≡ Shift (high p) (low p)) (λ t. refl) t
+
+-- the term of a pair
+pub pair-built : (f : ℕ → Term) (t p v : ℕ) → (1 < t) × (t < 5) → build f (nodeOfTag t p v) ≡ operationOf t (f (low p)) (f (high p))
+pair-built f t p v = at-pair (λ t. build f (nodeOfTag t p v) ≡ operationOf t (f (low p)) (f (high p))) refl refl refl t
 
 -- a tag that is none of the others
 pub other-tag : (t : ℕ) → t ≢ 0 → t ≢ 1 → t ≢ 2 → t ≢ 3 → t ≢ 4 → 4 < t
@@ -32,20 +47,10 @@ other-tag t a b c d e = omega arith
 
 -- the parts of an operation come before it
 pub first-before : (i t p v : ℕ) → 1 < t → InOrder i (nodeOfTag t p v) → low p < i
-first-before i zero p v h o = absurd (omega arith)
-first-before i (suc zero) p v h o = absurd (omega arith)
-first-before i (suc (suc zero)) p v h o = o .0
-first-before i (suc (suc (suc zero))) p v h o = o .0
-first-before i (suc (suc (suc (suc zero)))) p v h o = o .0
-first-before i (suc (suc (suc (suc (suc t))))) p v h o = o
+first-before i t p v = at-operation (λ t. InOrder i (nodeOfTag t p v) → low p < i) (λ o. o .0) (λ o. o .0) (λ o. o .0) (λ t o. o) t
 
 pub second-before : (i t p v : ℕ) → (1 < t) × (t < 5) → InOrder i (nodeOfTag t p v) → high p < i
-second-before i zero p v h o = absurd (omega arith)
-second-before i (suc zero) p v h o = absurd (omega arith)
-second-before i (suc (suc zero)) p v h o = o .1
-second-before i (suc (suc (suc zero))) p v h o = o .1
-second-before i (suc (suc (suc (suc zero)))) p v h o = o .1
-second-before i (suc (suc (suc (suc (suc t))))) p v h o = absurd (omega arith)
+second-before i t p v = at-pair (λ t. InOrder i (nodeOfTag t p v) → high p < i) (λ o. o .1) (λ o. o .1) (λ o. o .1) t
 
 -- ---- the terms of a table
 length-terms : (ws : List ℕ) (n : ℕ) → length (termsBelow ws n) ≡ n
@@ -102,6 +107,15 @@ module _ {ws : List ℕ} {i : ℕ} (f : Shaped ws (suc i)) where
 
   pub shaped-part : {j : ℕ} → j < i → Shaped ws (suc j)
   shaped-part h = shaped-less _ (omega arith) f
+
+  -- the parts of an operation, as they are read, come before it
+  pub first-part : {tag x : ℕ} → tag ≡ marksAt ws i % 8 → x ≡ low (partsAt ws i) → 1 < tag → x < i
+  unfolding viewOf
+  first-part q e h = rw e (first-before i (marksAt ws i % 8) (partsAt ws i) (valueAt ws i) (omega arith) order-here)
+
+  pub second-part : {tag y : ℕ} → tag ≡ marksAt ws i % 8 → y ≡ high (partsAt ws i) → (1 < tag) × (tag < 5) → y < i
+  unfolding viewOf
+  second-part q e h = rw e (second-before i (marksAt ws i % 8) (partsAt ws i) (valueAt ws i) (omega arith, omega arith) order-here)
 
 -- as an arm of `match view(..)` knows it
 module _ {ws : List ℕ} {i : ℕ} (f : Formed ws (suc i)) where

@@ -39,10 +39,6 @@ marksAt ws i = getD ws (place i + 2) 0
 abbrev pub valuedAt : List ℕ → ℕ → Bool
 valuedAt ws i = eqb (marksAt ws i / 8 % 4) 3
 
--- whether node i is plain, by its marks
-abbrev pub plainAt : List ℕ → ℕ → Bool
-plainAt ws i = eqb (marksAt ws i / 16 % 2) 1
-
 -- the node that a tag, parts and a value say
 abbrev pub nodeOfTag : (tag parts value : ℕ) → Node
 nodeOfTag zero p v = Constant v
@@ -120,14 +116,6 @@ factsOf t = rootOf t .tag + 8 * bit (closed t) + 16 * bit (plain t) + 32 * cappe
 unfoldable pub valueOf : Term → ℕ
 valueOf t = bit (closed t && plain t) * eval (λ v. 0) t
 
--- a pair is plain where both its parts are; a mask, tag 4, is not
-abbrev pub plainPair : (tag x y : ℕ) → ℕ
-plainPair zero x y = x * y
-plainPair (suc zero) x y = x * y
-plainPair (suc (suc zero)) x y = x * y
-plainPair (suc (suc (suc zero))) x y = x * y
-plainPair (suc (suc (suc (suc t)))) x y = 0
-
 -- the value of the operation of a tag
 abbrev pub pairValue : (tag a b : ℕ) → ℕ
 pairValue zero = addW
@@ -135,11 +123,6 @@ pairValue (suc zero) = addW
 pairValue (suc (suc zero)) = addW
 pairValue (suc (suc (suc zero))) = subW
 pairValue (suc (suc (suc (suc t)))) = maskW
-
--- the number of a constant, tag 0, which is its value, or of a variable, which stands in place of parts
-abbrev pub leafNumber : (tag parts value : ℕ) → ℕ
-leafNumber zero p v = v
-leafNumber (suc t) p v = p
 
 -- node i's marks are right: the lower half are its term's facts, the upper half is a node, i or before it, of the same term
 pub record Marked (ws : List ℕ) (i : ℕ) : Type 0 where

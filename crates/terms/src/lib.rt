@@ -10,13 +10,12 @@ ghost use mathlib.Core.Bool.{_&&_};
 ghost use Prim.Native.Nat.{suc, _+_, _*_, _/_, _%_, _≤_, _<_};
 ghost use lib.ListN.{length, set};
 ghost use lib.Dec.{eqb, leb};
-ghost use Rattle.model.specs.Term.{constant, variable, sum, difference, mask as maskOf, shift as shiftOf, eval, eqTerm, size as sizeOf};
+ghost use Rattle.model.specs.Term.{constant, variable, sum, difference, shift as shiftOf, closed as isClosed, size as sizeOf};
 ghost use Rattle.model.specs.Expression.{mostCount};
 ghost use Rattle.model.specs.Goals.{mostTermNodes};
 ghost use Rattle.model.specs.Verdict.{leastWorkspace};
 ghost use Rattle.workspace.specs.Layout.{mostVariables, hintBase, stored};
-ghost use Rattle.terms.specs.Table.{low as lowOf, high as highOf, partsAt, valueAt, marksAt, valuedAt, viewOf, operationOf, termAt, termOf, plain as isPlain, plainPair, pairValue, leafNumber, sizeCap, capped, valueOf, place, Shaped, Formed, Space, Put, Fits, Twinned};
-ghost use Rattle.terms.specs.Closed.{closedValue};
+ghost use Rattle.terms.specs.Table.{low as lowOf, high as highOf, partsAt, valueAt, marksAt, valuedAt, viewOf, operationOf, termAt, termOf, plain as isPlain, pairValue, sizeCap, capped, valueOf, place, Shaped, Formed, Space, Put, Fits, Twinned};
 
 // A node of the table: an operation names its parts by node number; a shift has its count first.
 pub enum Node {
@@ -26,12 +25,6 @@ pub enum Node {
     Difference(usize, usize),
     Mask(usize, usize),
     Shift(u32, usize),
-}
-
-// The value of a term without variables.
-pub enum Closed {
-    Value(u32),
-    Open,
 }
 
 // Sizes are kept up to this, one more than the nodes of a register's term.
@@ -76,7 +69,7 @@ pub fn tag(ws: &[u32], i: usize) -> u32
 }
 
 // The parts of node i, in one word.
-fn parts(ws: &[u32], i: usize) -> u32
+pub fn parts(ws: &[u32], i: usize) -> u32
     requires { ⌜ place (suc i) ≤ length (now ws) ⌝ }
     ensures { λ r. ⌜ r ≡ partsAt (now (ws .entry)) i ⌝ }
 {
@@ -265,27 +258,17 @@ fn at_most_cap(size: u32) -> u32
     size
 }
 
-// 1 for a sum or a difference of plain terms, by their marks; a mask, tag 4, is not plain.
-fn plain_pair(tag: u32, a: u32, b: u32) -> u32
-    ensures { λ r. ⌜ (r ≡ plainPair tag (a / 16 % 2) (b / 16 % 2)) × (r < 2) ⌝ }
-{
-    if 3 < tag {
-        return 0;
-    }
-    is_plain(a) * is_plain(b)
-}
-
-// The facts of a pair, by its tag and the marks of its parts.
-fn joined(tag: u32, a: u32, b: u32) -> u32
-    requires { ⌜ tag < 5 ⌝ }
-    ensures { λ r. ⌜ (r ≡ tag + 8 * ((a / 8 % 2) * (b / 8 % 2)) + 16 * plainPair tag (a / 16 % 2) (b / 16 % 2) + 32 * capped (lowOf a / 32 + lowOf b / 32 + 1)) × (r < 65536) ⌝ }
+// The facts of a pair, by its tag, whether it is plain (1) or not (0), and the marks of its parts.
+fn joined(tag: u32, plain: u32, a: u32, b: u32) -> u32
+    requires { ⌜ (tag < 5) × (plain < 2) ⌝ }
+    ensures { λ r. ⌜ (r ≡ tag + 8 * ((a / 8 % 2) * (b / 8 % 2)) + 16 * plain + 32 * capped (lowOf a / 32 + lowOf b / 32 + 1)) × (r < 65536) ⌝ }
 {
     let size = at_most_cap(size(a) + size(b) + 1);
-    tag + 8 * (is_closed(a) * is_closed(b)) + 16 * plain_pair(tag, a, b) + 32 * size
+    tag + 8 * (is_closed(a) * is_closed(b)) + 16 * plain + 32 * size
 }
 
 // The value of the sum, for tag 2, the difference, for tag 3, or the mask of two words.
-fn applied(tag: u32, a: u32, b: u32) -> u32
+pub fn applied(tag: u32, a: u32, b: u32) -> u32
     requires { ⌜ 1 < tag ⌝ }
     ensures { λ r. ⌜ r ≡ pairValue tag a b ⌝ }
 {
@@ -296,14 +279,14 @@ fn applied(tag: u32, a: u32, b: u32) -> u32
     }
 }
 
-// The value of the operation of a tag on two nodes, where it holds one; else 0.
+// The value of the sum, for tag 2, or the difference, for tag 3, of two nodes, where both hold one; else 0.
 fn computed(ws: &[u32], tag: u32, left: usize, right: usize) -> u32
     requires { ⌜ Formed (now ws) (suc left) ⌝ }
     requires { ⌜ Formed (now ws) (suc right) ⌝ }
-    requires { ⌜ (1 < tag) × (tag < 5) ⌝ }
+    requires { ⌜ (1 < tag) × (tag < 4) ⌝ }
     ensures { λ r. ⌜ r ≡ valueOf (operationOf tag (termAt (now (ws .entry)) left) (termAt (now (ws .entry)) right)) ⌝ }
 {
-    if (tag < 4) & holds_value(ws, left) & holds_value(ws, right) {
+    if holds_value(ws, left) & holds_value(ws, right) {
         return applied(tag, value(ws, left), value(ws, right));
     }
     0
@@ -319,10 +302,14 @@ pub fn put_pair(ws: &mut [u32], top: usize, tag: u32, left: usize, right: usize)
 {
     let a = marks(ws, left);
     let b = marks(ws, right);
-    let value = computed(ws, tag, left, right);
-    let facts = joined(tag, a, b);
     let parts = high(a) + 65536 * high(b);
-    put(ws, top, parts as u32, value, facts);
+    if tag < 4 {
+        let value = computed(ws, tag, left, right);
+        let facts = joined(tag, is_plain(a) * is_plain(b), a, b);
+        put(ws, top, parts as u32, value, facts);
+        return;
+    }
+    put(ws, top, parts as u32, 0, joined(tag, 0, a, b));
 }
 
 // Puts the sum of two nodes at node top.
@@ -343,16 +330,6 @@ pub fn put_difference(ws: &mut [u32], top: usize, left: usize, right: usize)
     ensures { λ _. ⌜ Put (now (ws .entry)) (now (ws .exit)) top (difference (termAt (now (ws .entry)) left) (termAt (now (ws .entry)) right)) ⌝ }
 {
     put_pair(ws, top, 3, left, right);
-}
-
-// Puts the mask of two nodes at node top.
-pub fn put_mask(ws: &mut [u32], top: usize, left: usize, right: usize)
-    requires { ⌜ Formed (now ws) top ⌝ }
-    requires { ⌜ Space (now ws) top 1 ⌝ }
-    requires { ⌜ (left < top) × (right < top) ⌝ }
-    ensures { λ _. ⌜ Put (now (ws .entry)) (now (ws .exit)) top (maskOf (termAt (now (ws .entry)) left) (termAt (now (ws .entry)) right)) ⌝ }
-{
-    put_pair(ws, top, 4, left, right);
 }
 
 // The facts of a shift, tag 5, by the marks of its part.
@@ -386,7 +363,7 @@ pub fn twins(ws: &[u32], i: usize, j: usize) -> bool
 }
 
 // Whether the terms of nodes i and j have the same facts.
-fn alike(ws: &[u32], i: usize, j: usize) -> bool
+pub fn alike(ws: &[u32], i: usize, j: usize) -> bool
     requires { ⌜ Shaped (now ws) (suc i) ⌝ }
     requires { ⌜ Shaped (now ws) (suc j) ⌝ }
     ensures { λ r. ⌜ r ≡ eqb (lowOf (marksAt (now (ws .entry)) i)) (lowOf (marksAt (now (ws .entry)) j)) ⌝ }
@@ -394,90 +371,12 @@ fn alike(ws: &[u32], i: usize, j: usize) -> bool
     low(marks(ws, i)) == low(marks(ws, j))
 }
 
-// The number of node i, a constant, tag 0, or a variable, tag 1.
-fn number(ws: &[u32], i: usize, tag: u32) -> u32
-    requires { ⌜ place (suc i) ≤ length (now ws) ⌝ }
-    ensures { λ r. ⌜ r ≡ leafNumber tag (partsAt (now (ws .entry)) i) (valueAt (now (ws .entry)) i) ⌝ }
-{
-    if tag == 0 {
-        return value(ws, i);
-    }
-    parts(ws, i)
-}
-
-// Whether nodes i and j have the same term, node by node: at once where the same node stands for both, or where their facts differ. What
-// stands in place of values, but for constants, is not looked at.
-pub fn equal(ws: &[u32], i: usize, j: usize) -> bool
-    requires { ⌜ Shaped (now ws) (suc i) ⌝ }
-    requires { ⌜ Shaped (now ws) (suc j) ⌝ }
-    ensures { λ r. ⌜ r ≡ eqTerm (termAt (now (ws .entry)) i) (termAt (now (ws .entry)) j) ⌝ }
-{
-    if twins(ws, i, j) {
-        return true;
-    }
-    if !alike(ws, i, j) {
-        return false;
-    }
-    let tag = tag(ws, i);
-    if tag < 2 {
-        return number(ws, i, tag) == number(ws, j, tag);
-    }
-    if !equal(ws, first(ws, i), first(ws, j)) {
-        return false;
-    }
-    let a = second(ws, i);
-    let b = second(ws, j);
-    if 4 < tag {
-        return a == b;
-    }
-    equal(ws, a, b)
-}
-
-// Whether nodes i and j have the same term.
-pub fn same(ws: &[u32], i: usize, j: usize) -> bool
+// Whether no variable stands in node i's term.
+pub fn closed(ws: &[u32], i: usize) -> bool
     requires { ⌜ Formed (now ws) (suc i) ⌝ }
-    requires { ⌜ Formed (now ws) (suc j) ⌝ }
-    ensures { λ r. ⌜ r ≡ eqTerm (termAt (now (ws .entry)) i) (termAt (now (ws .entry)) j) ⌝ }
+    ensures { λ r. ⌜ r ≡ isClosed (termAt (now (ws .entry)) i) ⌝ }
 {
-    if twins(ws, i, j) {
-        return true;
-    }
-    equal(ws, i, j)
-}
-
-// The value of node i's term, every variable being 0.
-fn reduced(ws: &[u32], i: usize) -> u32
-    requires { ⌜ Formed (now ws) (suc i) ⌝ }
-    ensures { λ r. ⌜ r ≡ eval (λ v. 0) (termAt (now (ws .entry)) i) ⌝ }
-{
-    if holds_value(ws, i) {
-        return value(ws, i);
-    }
-    let kind = tag(ws, i);
-    if kind < 2 {
-        return 0;
-    }
-    let a = reduced(ws, first(ws, i));
-    let other = second(ws, i);
-    if 4 < kind {
-        return fields::shift(a, other as u32);
-    }
-    applied(kind, a, reduced(ws, other))
-}
-
-// The value of node i's term where it has no variable: at once where it is kept.
-pub fn evaluate(ws: &[u32], i: usize) -> Closed
-    requires { ⌜ Formed (now ws) (suc i) ⌝ }
-    ensures { λ r. ⌜ r ≡ closedValue (termAt (now (ws .entry)) i) ⌝ }
-{
-    if holds_value(ws, i) {
-        return Closed::Value(value(ws, i));
-    }
-    if is_closed(marks(ws, i)) == 1 {
-        Closed::Value(reduced(ws, i))
-    } else {
-        Closed::Open
-    }
+    is_closed(marks(ws, i)) == 1
 }
 
 // Whether no mask or shift stands in node i's term.

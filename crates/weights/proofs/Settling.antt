@@ -1,7 +1,7 @@
 -- Laws of weights that are left: nodes with the same masked or shifted term are brought together. Assumes nothing.
 use mathlib.Core.Path.{_≡_, refl, sym, ap, subst, _∙_}
 use mathlib.Core.Logic.{_≢_}
-use mathlib.Core.Bool.{Bool, true, false, not, _&&_}
+use mathlib.Core.Bool.{Bool, true, false, not, _&&_, and-false}
 use mathlib.Core.List.{List}
 use Prim.Native.Nat.{ℕ, zero, suc, _+_, _-_, _*_, _%_, _^_, _≤_, _<_}
 use native.Mathlib.Omega.{arith}
@@ -18,7 +18,7 @@ use Rattle.workspace.specs.Layout.{Same, areaWords, hintBase, mostTableNodes}
 use Rattle.workspace.proofs.Frames.{same-refl, same-trans, set-before}
 use Rattle.terms.specs.Table.{place, valueAt, valuedAt, termAt, plain, Formed, Shaped}
 use Rattle.terms.proofs.Table.{formed-less, marks-here}
-use Rattle.terms.proofs.Walks.{no-value-zero, valued-at}
+use Rattle.terms.proofs.Facts.{no-value-zero, valued-at}
 use Rattle.forms.specs.Entries.{opaque, Entry, ofTerm, numberAt, Unlike}
 use Rattle.weights.specs.Weights.{total, weighsAt, Loaded, Partner, Settleable, Unsettled, Settled, Spread, Reckoned}
 use Rattle.forms.proofs.Forms.{clash, opaque-coefficient, plain-coefficient, coefficient-word}
@@ -63,11 +63,7 @@ module _ {ws us : List ℕ} {n : ℕ} (t : Formed ws n) (g : Loaded ws us n 0) (
 
 -- a masked or shifted term holds no value
 opaque-open : {ws : List ℕ} {k : ℕ} → Formed ws (suc k) → opaque (termAt ws k) ≡ true → valuedAt ws k ≡ false
-opaque-open {ws} {k} t o = valued-at (marks-here (t .shaped)) ∙ rw (opaque-plain (termAt ws k) o) (and-no (closed (termAt ws k)))
-  where
-    and-no : (b : Bool) → (b && false) ≡ false
-    and-no true = refl
-    and-no false = refl
+opaque-open {ws} {k} t o = valued-at (marks-here (t .shaped)) ∙ rw (opaque-plain (termAt ws k) o) (and-false (closed (termAt ws k)))
 
 -- ---- the last node, where it has no weight any more
 loaded-less : {ws us vs : List ℕ} {k : ℕ} → Loaded ws us (suc k) 0 → valueAt vs k ≡ valueAt ws k → ((p : ℕ) → p < hintBase → p ≢ place k + 1 → getD vs p 0 ≡ getD us p 0) → length vs ≡ length us → k ≤ mostTableNodes → Loaded ws vs k 0

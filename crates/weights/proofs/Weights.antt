@@ -22,7 +22,7 @@ use Rattle.terms.specs.declared.Node.{Node}
 use Rattle.terms.specs.declared.Node.the-variants.{Constant, Variable, Sum, Difference, Mask, Shift}
 use Rattle.terms.proofs.Node.{enum as node-enum}
 use Rattle.terms.proofs.Table.{formed-less, node-order, node-built, marks-here, built-here, term-viewed, shaped-viewed}
-use Rattle.terms.proofs.Walks.{valued-at, value-is-kept, no-value-zero}
+use Rattle.terms.proofs.Facts.{valued-at, value-is-kept, no-value-zero}
 use Rattle.forms.specs.Area.{formAt, Comparable}
 use Rattle.forms.specs.Entries.{opaque, Entry, inWord, ofTerm, Valid, numberAt}
 use Rattle.weights.specs.Weights.{areaAt, givenTo, total, Allowed, Loaded, Weighed, Weighable, Passed, Spread}

@@ -144,7 +144,7 @@ fn searched(ws: &[u32], k: usize) -> usize
     while 0 < j {
         j -= 1;
         if weighs(ws, j) {
-            if terms::equal(ws, j, k) {
+            if term_walks::equal(ws, j, k) {
                 return j;
             }
         }
@@ -160,7 +160,7 @@ fn partner(ws: &mut [u32], k: usize) -> usize
 {
     let known = noted(ws, k);
     if known < k {
-        if terms::equal(ws, known, k) {
+        if term_walks::equal(ws, known, k) {
             return known;
         }
     }

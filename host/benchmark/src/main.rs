@@ -3,7 +3,8 @@
 //! `benchmark [PART]` measures the inputs whose name contains PART, all without it. The two are
 //! called in turn; a row has the medians, the spread (half the distance of the quartiles, as a part
 //! of the median) and the ratio of the medians, proved / reference. Times are the processor's for
-//! this thread, so that other programs disturb them little. Nothing is asserted of them.
+//! this thread, so that other programs disturb them little. Rows of checks also have the bytes of
+//! stack that the proved call takes. Nothing is asserted of them.
 
 use std::hint::black_box;
 use std::time::Duration;
@@ -12,6 +13,8 @@ use generator::assemble::{package, Instruction, Policy, Region, READ, WRITE};
 use generator::random::Random;
 use generator::routine::{plain_sample, sample, Sample};
 use generator::worst::worst_cases;
+
+mod stack;
 
 /// How long one measurement should take at least, by as many calls as that needs.
 const LEAST: Duration = Duration::from_micros(500);
@@ -26,7 +29,7 @@ fn main() {
     let part = std::env::args().nth(1).unwrap_or_default();
     let heading = ["reference", "spread", "proved", "spread", "ratio"];
     let heading = row(&heading.map(String::from));
-    println!("{:<52} {:>6} {:>7} {:>6} {heading}", "checks", "bytes", "answer", "goals");
+    println!("{:<52} {:>6} {:>7} {:>6} {heading}   stack", "checks", "bytes", "answer", "goals");
     for input in checks().iter().filter(|input| input.name.contains(&part)) {
         measure_check(input);
     }
@@ -122,8 +125,11 @@ fn measure_check(input: &Check) {
             black_box(loader::check(&mut other, &input.policy, &input.package));
         },
     );
+    let stack = stack::stack_of(&mut || {
+        black_box(loader::check(&mut other, &input.policy, &input.package));
+    });
     println!(
-        "{:<52} {:>6} {:>7} {:>6} {}{}",
+        "{:<52} {:>6} {:>7} {:>6} {} {stack:>7}{}",
         input.name,
         input.package.len(),
         verdict.number,

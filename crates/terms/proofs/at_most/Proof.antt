@@ -1,5 +1,5 @@
 use Rattle.terms.proofs.Table.{marks-here}
-use Rattle.terms.proofs.Walks.{size-most}
+use Rattle.terms.proofs.Facts.{size-most}
 use borrow.Author.Needs.{needs}
 use Rattle.terms.proofs.at_most.Statement.{statement}
 use Rattle.terms.proofs.at_most.Tie as tie

@@ -1,5 +1,5 @@
 use mathlib.Core.Path.{sym, refl, _∙_}
-use Rattle.terms.proofs.Walks.{find-hinted, find-new}
+use Rattle.terms.proofs.Facts.{find-hinted, find-new}
 use Rattle.terms.proofs.Table.{formed-less}
 use native.Mathlib.Omega.{arith}
 use borrow.Author.Needs.{needs}

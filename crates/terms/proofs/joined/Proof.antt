@@ -1,4 +1,4 @@
-use Rattle.terms.proofs.Walks.{bits-product}
+use Rattle.terms.proofs.Facts.{bits-product}
 use native.Mathlib.Omega.{arith}
 use borrow.Author.Needs.{needs}
 use Rattle.terms.proofs.joined.Statement.{statement}
@@ -13,17 +13,14 @@ mul-result-2 c = omega (arith, bits-product _ _ (c .before .is-closed .ensures .
 add-result : tie.Need-add-result
 add-result c = omega (arith, bits-product _ _ (c .before .is-closed .ensures .1) (c .is-closed2 .ensures .1))
 
-mul-result-3 : tie.Need-mul-result-3
-mul-result-3 c = omega (arith, c .plain-pair .ensures .1)
-
 add-result-2 : tie.Need-add-result-2
-add-result-2 c = omega (arith, bits-product _ _ (c .before .before .is-closed .ensures .1) (c .before .is-closed2 .ensures .1), c .plain-pair .ensures .1)
+add-result-2 c = omega (arith, bits-product _ _ (c .before .is-closed .ensures .1) (c .is-closed2 .ensures .1))
 
 add-result-3 : tie.Need-add-result-3
-add-result-3 c = omega (arith, bits-product _ _ (c .before .before .is-closed .ensures .1) (c .before .is-closed2 .ensures .1), c .plain-pair .ensures .1)
+add-result-3 c = omega (arith, bits-product _ _ (c .before .is-closed .ensures .1) (c .is-closed2 .ensures .1))
 
 returns : tie.Need-returns
-returns c = (rw (c .before .before .is-closed .ensures .0, c .before .is-closed2 .ensures .0, c .plain-pair .ensures .0, c .before .before .before .at-most-cap .ensures .0, c .before .before .before .before .before .size .ensures .0, c .before .before .before .before .size2 .ensures .0), omega (arith, bits-product _ _ (c .before .before .is-closed .ensures .1) (c .before .is-closed2 .ensures .1), c .plain-pair .ensures .1))
+returns c = (rw (c .before .is-closed .ensures .0, c .is-closed2 .ensures .0, c .before .before .at-most-cap .ensures .0, c .before .before .before .before .size .ensures .0, c .before .before .before .size2 .ensures .0), omega (arith, bits-product _ _ (c .before .is-closed .ensures .1) (c .is-closed2 .ensures .1)))
 
 pub joined-spec : {M : Type 1} → statement M
 joined-spec =
@@ -39,8 +36,7 @@ joined-spec =
     mul-result
     mul-result-2
     add-result
-    (λ c κs. search needs)
-    mul-result-3
+    (λ c. search needs)
     add-result-2
     (λ c. search needs)
     add-result-3

@@ -1,6 +1,5 @@
-use mathlib.Core.Path.{_∙_}
 use Rattle.terms.proofs.Table.{marks-here}
-use Rattle.terms.proofs.Walks.{plain-at}
+use Rattle.terms.proofs.Facts.{plain-at}
 use borrow.Author.Needs.{needs}
 use Rattle.terms.proofs.plain.Statement.{statement}
 use Rattle.terms.proofs.plain.Tie as tie

@@ -1,23 +1,23 @@
 use mathlib.Core.Path.{sym, _∙_}
 use native.Mathlib.Omega.{arith}
 use borrow.Author.Tests.{eqb-true, eqb-false, not-true, not-false}
 use Rattle.terms.proofs.Table.{shaped-part}
-use Rattle.terms.proofs.Walks.{same-twin, same-facts, same-leaf, first-parts, first-differs, second-parts, same-count, same-second}
+use Rattle.term_walks.proofs.Walks.{same-twin, same-facts, same-leaf, first-parts, first-differs, second-parts, same-count, same-second}
 use borrow.Author.Needs.{needs}
 use Prim.Native.Nat.{ℕ, _<_}
 use borrow.Fn.Kinds.{In}
 use borrow.Fn.PlainCycle.{Measures, is, falls, and}
-use Rattle.terms.proofs.equal.Reads as it
-use Rattle.terms.proofs.equal.Kinds as kinds
-use Rattle.terms.proofs.+equal.Lts-equal as lts
+use Rattle.term_walks.proofs.equal.Reads as it
+use Rattle.term_walks.proofs.equal.Kinds as kinds
+use Rattle.term_walks.proofs.+equal.Lts-equal as lts
 use Rattle.terms.proofs.alike.Reads as alike-reads
 use Rattle.terms.proofs.first.Reads as first-reads
-use Rattle.terms.proofs.number.Reads as number-reads
+use Rattle.term_walks.proofs.number.Reads as number-reads
 use Rattle.terms.proofs.second.Reads as second-reads
 use Rattle.terms.proofs.tag.Reads as tag-reads
 use Rattle.terms.proofs.twins.Reads as twins-reads
-use Rattle.terms.proofs.+equal.{statement}
-use Rattle.terms.proofs.+equal.Tie.{close}
+use Rattle.term_walks.proofs.+equal.{statement}
+use Rattle.term_walks.proofs.+equal.Tie.{close}
 
 abbrev μ : Measures 1 kinds.ps ℕ
 μ κs a = a .1 .0

@@ -1,7 +1,7 @@
-use Rattle.terms.proofs.Walks.{leaf-constant, leaf-variable}
+use Rattle.term_walks.proofs.Walks.{leaf-constant, leaf-variable}
 use borrow.Author.Needs.{needs}
-use Rattle.terms.proofs.number.Statement.{statement}
-use Rattle.terms.proofs.number.Tie as tie
+use Rattle.term_walks.proofs.number.Statement.{statement}
+use Rattle.term_walks.proofs.number.Tie as tie
 
 returns : tie.Need-returns
 returns c = leaf-constant _ _ (c .before .if1 .taken) (c .value .ensures)

@@ -1,23 +1,24 @@
 use mathlib.Core.Path.{sym, _∙_}
 use native.Mathlib.Omega.{arith}
-use Rattle.terms.proofs.Table.{part}
-use Rattle.terms.proofs.Walks.{value-is-kept, reduced-leaf, reduced-first, reduced-second, reduced-pair, reduced-shift}
+use Rattle.terms.proofs.Table.{part, first-part, second-part}
+use Rattle.terms.proofs.Facts.{value-is-kept}
+use Rattle.term_walks.proofs.Walks.{reduced-leaf, reduced-pair, reduced-shift}
 use borrow.Author.Needs.{needs}
 use Prim.Native.Nat.{ℕ, _<_}
 use borrow.Fn.Kinds.{In}
 use borrow.Fn.PlainCycle.{Measures, is, falls, and}
-use Rattle.terms.proofs.reduced.Reads as it
-use Rattle.terms.proofs.reduced.Kinds as kinds
-use Rattle.terms.proofs.+reduced.Lts-reduced as lts
+use Rattle.term_walks.proofs.reduced.Reads as it
+use Rattle.term_walks.proofs.reduced.Kinds as kinds
+use Rattle.term_walks.proofs.+reduced.Lts-reduced as lts
 use Rattle.fields.proofs.shift.Reads as shift-reads
 use Rattle.terms.proofs.applied.Reads as applied-reads
 use Rattle.terms.proofs.first.Reads as first-reads
 use Rattle.terms.proofs.holds_value.Reads as holds-value-reads
 use Rattle.terms.proofs.second.Reads as second-reads
 use Rattle.terms.proofs.tag.Reads as tag-reads
 use Rattle.terms.proofs.value.Reads as value-reads
-use Rattle.terms.proofs.+reduced.{statement}
-use Rattle.terms.proofs.+reduced.Tie.{close}
+use Rattle.term_walks.proofs.+reduced.{statement}
+use Rattle.term_walks.proofs.+reduced.Tie.{close}
 
 abbrev μ : Measures 1 kinds.ps ℕ
 μ κs a = a .1 .0
@@ -39,13 +40,13 @@ module _ (t : ℕ) where
   returns-2 c = reduced-leaf (c .before .before .before .before .before .pre .1) (c .before .tag .ensures) (c .if2 .taken) (sym (c .before .before .before .holds-value .ensures) ∙ c .before .before .if1 .left)
 
   reduced-requires : lts.Need-reduced-requires (R t) (given t) it.Post
-  reduced-requires c κs = let p = reduced-first (c .before .before .before .before .before .before .pre .1) (c .before .before .tag .ensures) (c .first .ensures) (omega (arith, c .before .if2 .left)) in (omega (arith, c .before .before .before .before .before .before .pre .0, p), part (c .before .before .before .before .before .before .pre .1) p)
+  reduced-requires c κs = let p = first-part (c .before .before .before .before .before .before .pre .1 .shaped) (c .before .before .tag .ensures) (c .first .ensures) (omega (arith, c .before .if2 .left)) in (omega (arith, c .before .before .before .before .before .before .pre .0, p), part (c .before .before .before .before .before .before .pre .1) p)
 
   returns-3 : lts.Need-returns-3 (R t) (given t) it.Post
   returns-3 c = reduced-shift (c .before .before .before .before .before .before .before .before .before .before .pre .1) (c .before .before .before .before .before .before .tag .ensures) (c .before .before .before .before .first .ensures) (c .before .before .second .ensures .0) (c .before .before .before .reduced .ensures) (c .before .if3 .taken) (c .shift .ensures)
 
   reduced-requires-2 : lts.Need-reduced-requires-2 (R t) (given t) it.Post
-  reduced-requires-2 c κs = let p = reduced-second (c .before .before .before .before .before .before .before .before .before .pre .1) (c .before .before .before .before .before .tag .ensures) (c .before .second .ensures .0) (omega (arith, c .before .before .before .before .if2 .left)) (omega (arith, c .if3 .left)) in (omega (arith, c .before .before .before .before .before .before .before .before .before .pre .0, p), part (c .before .before .before .before .before .before .before .before .before .pre .1) p)
+  reduced-requires-2 c κs = let p = second-part (c .before .before .before .before .before .before .before .before .before .pre .1 .shaped) (c .before .before .before .before .before .tag .ensures) (c .before .second .ensures .0) (omega (arith, c .before .before .before .before .if2 .left), omega (arith, c .if3 .left)) in (omega (arith, c .before .before .before .before .before .before .before .before .before .pre .0, p), part (c .before .before .before .before .before .before .before .before .before .pre .1) p)
 
   returns-4 : lts.Need-returns-4 (R t) (given t) it.Post
   returns-4 c = reduced-pair (c .before .before .before .before .before .before .before .before .before .before .before .pre .1) (c .before .before .before .before .before .before .before .tag .ensures) (c .before .before .before .before .before .first .ensures) (c .before .before .before .second .ensures .0) (c .before .before .before .before .reduced .ensures) (omega (arith, c .before .before .before .before .before .before .if2 .left)) (omega (arith, c .before .before .if3 .left)) (c .before .reduced2 .ensures) (c .applied .ensures)

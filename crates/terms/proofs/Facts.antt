@@ -1,0 +1,317 @@
+-- Laws of what stands beside a node, and of the functions that keep it: one for each way out. Assumes nothing.
+use mathlib.Core.Path.{_≡_, refl, sym, ap, subst, _∙_}
+use mathlib.Core.Logic.{inl, inr, _≢_}
+use mathlib.Core.Bool.{Bool, true, false, _&&_, and-false}
+use mathlib.Core.List.{List}
+use Prim.Native.Nat.{ℕ, zero, suc, _+_, _*_, _/_, _%_, _^_, _<_, _≤_}
+use native.Mathlib.Omega.{arith}
+use native.Mathlib.Decide.{decLt}
+use lib.ListN.{set}
+use lib.Dec.{eqb, leb}
+use borrow.Author.Tests.{eqb-true, le-leb, lt-leb}
+use Rattle.model.specs.Word.{maskW}
+use Rattle.model.specs.Term.{Term, constant, variable, sum, difference, mask, shift, eval, size, closed, rootOf}
+use Rattle.model.specs.Expression.{mostCount}
+use Rattle.model.proofs.Terms.{and-left, and-right}
+use Rattle.workspace.specs.Layout.{mostVariables, hintBase, Same}
+use Rattle.terms.specs.Table.{low, high, partsAt, valueAt, marksAt, valuedAt, nodeOfTag, viewOf, build, operationOf, termAt, termOf, plain, pairValue, bit, sizeCap, capped, factsOf, valueOf, InOrder, Marked, Formed, Put, Fits, Twinned}
+use Rattle.terms.specs.declared.Node.the-variants.{Shift}
+use Rattle.workspace.proofs.Frames.{same-refl, set-before}
+use Rattle.terms.proofs.Table.{at-operation, at-pair, pair-built, marks-here, value-here}
+
+-- ---- what marks say
+tag-bound : (t : Term) → rootOf t .tag < 6
+tag-bound (constant c) = omega arith
+tag-bound (variable v) = omega arith
+tag-bound (sum s t) = omega arith
+tag-bound (difference s t) = omega arith
+tag-bound (mask s t) = omega arith
+tag-bound (shift count s) = omega arith
+
+bit-bound : (b : Bool) → bit b < 2
+bit-bound true = omega arith
+bit-bound false = omega arith
+
+bit-both : (a b : Bool) → bit (a && b) ≡ bit a * bit b
+bit-both true true = refl
+bit-both true false = refl
+bit-both false b = omega arith
+
+pub bits-product : (x y : ℕ) → x < 2 → y < 2 → x * y < 2
+bits-product zero y h k = omega arith
+bits-product (suc zero) y h k = omega arith
+bits-product (suc (suc x)) y h k = absurd (omega arith)
+
+capped-over : (n : ℕ) → sizeCap ≤ n → capped n ≡ sizeCap
+capped-over n h = omega arith
+
+capped-under : (n : ℕ) → n ≤ sizeCap → capped n ≡ n
+capped-under n h = omega arith
+
+-- sizes may be capped before they are added
+capped-sum : (a b : ℕ) → capped (a + b + 1) ≡ capped (capped a + capped b + 1)
+capped-sum a b = go (decLt sizeCap a) (decLt sizeCap b)
+  where
+    go : Dec (sizeCap < a) → Dec (sizeCap < b) → capped (a + b + 1) ≡ capped (capped a + capped b + 1)
+    go (yes h) k = rw (capped-over (a + b + 1) (omega arith), capped-over a (omega arith), capped-over (sizeCap + capped b + 1) (omega arith))
+    go (no h) (yes k) = rw (capped-over (a + b + 1) (omega arith), capped-over b (omega arith), capped-over (capped a + sizeCap + 1) (omega arith))
+    go (no h) (no k) = rw (capped-under a (omega arith), capped-under b (omega arith))
+
+capped-suc : (a : ℕ) → capped (a + 1) ≡ capped (capped a + 1)
+capped-suc a = go (decLt sizeCap a)
+  where
+    go : Dec (sizeCap < a) → capped (a + 1) ≡ capped (capped a + 1)
+    go (yes h) = rw (capped-over (a + 1) (omega arith), capped-over a (omega arith), capped-over (sizeCap + 1) (omega arith))
+    go (no h) = rw (capped-under a (omega arith))
+
+module _ (m : ℕ) (t : Term) (e : low m ≡ factsOf t) where
+  pub closed-bit : m / 8 % 2 ≡ bit (closed t)
+  unfolding factsOf
+  closed-bit = omega (arith, e, tag-bound t, bit-bound (closed t), bit-bound (plain t))
+
+  pub plain-bit : m / 16 % 2 ≡ bit (plain t)
+  unfolding factsOf
+  plain-bit = omega (arith, e, tag-bound t, bit-bound (closed t), bit-bound (plain t))
+
+  pub size-in : low m / 32 ≡ capped (size t)
+  unfolding factsOf
+  size-in = omega (arith, e, tag-bound t, bit-bound (closed t), bit-bound (plain t))
+
+  pub size-most : (n : ℕ) → n < sizeCap → leb (low m / 32) n ≡ leb (size t) n
+  size-most n l = rw size-in (go (decLt n (size t)))
+    where
+      go : Dec (n < size t) → leb (capped (size t)) n ≡ leb (size t) n
+      go (yes h) = rw (lt-leb (capped (size t)) n (omega arith), lt-leb (size t) n h)
+      go (no h) = rw (le-leb (capped (size t)) n (omega arith), le-leb (size t) n (omega arith))
+
+  valued-bits : m / 8 % 4 ≡ bit (closed t) + 2 * bit (plain t)
+  valued-bits = omega (arith, closed-bit, plain-bit)
+
+bit-is : (b : Bool) → eqb (bit b) 1 ≡ b
+bit-is true = refl
+bit-is false = refl
+
+bits-are : (a b : Bool) → eqb (bit a + 2 * bit b) 3 ≡ (a && b)
+bits-are true true = refl
+bits-are true false = refl
+bits-are false true = refl
+bits-are false false = refl
+
+module _ {ws : List ℕ} {i : ℕ} (k : Marked ws i) where
+  pub tag-at : marksAt ws i % 8 ≡ rootOf (termAt ws i) .tag
+  unfolding factsOf
+  tag-at = omega (arith, k .facts, tag-bound (termAt ws i), bit-bound (closed (termAt ws i)), bit-bound (plain (termAt ws i)))
+
+  pub valued-at : valuedAt ws i ≡ (closed (termAt ws i) && plain (termAt ws i))
+  valued-at = rw (valued-bits (marksAt ws i) (termAt ws i) (k .facts)) (bits-are (closed (termAt ws i)) (plain (termAt ws i)))
+
+  pub plain-at : eqb (marksAt ws i / 16 % 2) 1 ≡ plain (termAt ws i)
+  plain-at = rw (plain-bit (marksAt ws i) (termAt ws i) (k .facts)) (bit-is (plain (termAt ws i)))
+
+  pub closed-at : eqb (marksAt ws i / 8 % 2) 1 ≡ closed (termAt ws i)
+  closed-at = rw (closed-bit (marksAt ws i) (termAt ws i) (k .facts)) (bit-is (closed (termAt ws i)))
+
+-- ---- the value that is kept
+module _ (t : Term) (b : Bool) (h : (closed t && plain t) ≡ b) where
+  pub kept-value : b ≡ true → valueOf t ≡ eval (λ v. 0) t
+  unfolding valueOf
+  kept-value e = rw (h, e) (omega arith)
+
+  pub no-value : b ≡ false → valueOf t ≡ 0
+  unfolding valueOf
+  no-value e = rw (h, e) (omega arith)
+
+module _ {ws : List ℕ} {i : ℕ} (f : Formed ws (suc i)) where
+  -- a node that holds no value has 0 in its place
+  pub no-value-zero : valuedAt ws i ≡ false → valueAt ws i ≡ 0
+  no-value-zero h = value-here f ∙ no-value (termAt ws i) (valuedAt ws i) (sym (valued-at (marks-here (f .shaped)))) h
+
+  pub value-is-kept : valuedAt ws i ≡ true → valueAt ws i ≡ eval (λ v. 0) (termAt ws i)
+  value-is-kept h = value-here f ∙ kept-value (termAt ws i) (valuedAt ws i) (sym (valued-at (marks-here (f .shaped)))) h
+
+-- ---- the value of a term by those of its parts
+pub pair-eval : (tag : ℕ) (s t : Term) → 1 < tag → eval (λ v. 0) (operationOf tag s t) ≡ pairValue tag (eval (λ v. 0) s) (eval (λ v. 0) t)
+unfolding eval
+pair-eval tag s t = at-operation (λ tag. eval (λ v. 0) (operationOf tag s t) ≡ pairValue tag (eval (λ v. 0) s) (eval (λ v. 0) t)) refl refl refl (λ tag. refl) tag
+
+-- ---- a pair's facts and value, by those of its parts
+module _ (s t : Term) where
+  pair-facts : (tag : ℕ) → (1 < tag) × (tag < 5) → factsOf (operationOf tag s t) ≡ tag + 8 * (bit (closed s) * bit (closed t)) + 16 * bit (plain (operationOf tag s t)) + 32 * capped (capped (size s) + capped (size t) + 1)
+  unfolding factsOf closed size
+  pair-facts tag = at-pair (λ tag. factsOf (operationOf tag s t) ≡ tag + 8 * (bit (closed s) * bit (closed t)) + 16 * bit (plain (operationOf tag s t)) + 32 * capped (capped (size s) + capped (size t) + 1)) (joined 2 (bit (plain (sum s t)))) (joined 3 (bit (plain (difference s t)))) (joined 4 (bit (plain (mask s t)))) tag
+    where
+      joined : (n p : ℕ) → n + 8 * bit (closed s && closed t) + 16 * p + 32 * capped (size s + size t + 1) ≡ n + 8 * (bit (closed s) * bit (closed t)) + 16 * p + 32 * capped (capped (size s) + capped (size t) + 1)
+      joined n p = rw (bit-both (closed s) (closed t), capped-sum (size s) (size t))
+
+  shift-facts : (count : ℕ) → factsOf (shift count s) ≡ 5 + 8 * bit (closed s) + 32 * capped (capped (size s) + 1)
+  unfolding factsOf closed plain size
+  shift-facts count = rw (capped-suc (size s)) (omega arith)
+
+  -- a sum or a difference holds a value where both its parts do
+  and-swap : (a b c d : Bool) → ((a && b) && (c && d)) ≡ ((a && c) && (b && d))
+  and-swap true true c d = refl
+  and-swap true false true d = refl
+  and-swap true false false d = refl
+  and-swap false b c d = refl
+
+  pair-valued : (tag : ℕ) → (1 < tag) × (tag < 4) → (closed (operationOf tag s t) && plain (operationOf tag s t)) ≡ ((closed s && plain s) && (closed t && plain t))
+  unfolding closed plain
+  pair-valued tag h = at-operation (λ tag. tag < 4 → (closed (operationOf tag s t) && plain (operationOf tag s t)) ≡ ((closed s && plain s) && (closed t && plain t))) (λ k. swap) (λ k. swap) (λ k. absurd (omega arith)) (λ tag k. absurd (omega arith)) tag (h .0) (h .1)
+    where
+      swap : ((closed s && closed t) && (plain s && plain t)) ≡ ((closed s && plain s) && (closed t && plain t))
+      swap = and-swap (closed s) (closed t) (plain s) (plain t)
+
+  -- and is plain where both are
+  pair-plain : (tag : ℕ) → (1 < tag) × (tag < 4) → bit (plain (operationOf tag s t)) ≡ bit (plain s) * bit (plain t)
+  unfolding plain
+  pair-plain tag h = at-operation (λ tag. tag < 4 → bit (plain (operationOf tag s t)) ≡ bit (plain s) * bit (plain t)) (λ k. bit-both (plain s) (plain t)) (λ k. bit-both (plain s) (plain t)) (λ k. absurd (omega arith)) (λ tag k. absurd (omega arith)) tag (h .0) (h .1)
+
+  -- a mask is not plain, and holds no value
+  mask-plain : (tag : ℕ) → 4 ≤ tag → plain (operationOf tag s t) ≡ false
+  unfolding plain
+  mask-plain tag h = at-operation (λ tag. 4 ≤ tag → plain (operationOf tag s t) ≡ false) (λ k. absurd (omega arith)) (λ k. absurd (omega arith)) (λ k. refl) (λ tag k. refl) tag (omega arith) h
+
+pub mask-value : (tag a b : ℕ) {r : ℕ} → 1 < tag → tag ≢ 2 → tag ≢ 3 → r ≡ maskW a b → r ≡ pairValue tag a b
+mask-value tag a b {r} = at-operation (λ tag. tag ≢ 2 → tag ≢ 3 → r ≡ maskW a b → r ≡ pairValue tag a b) (λ n m e. absurd (n refl)) (λ n m e. absurd (m refl)) (λ n m e. e) (λ tag n m e. e) tag
+
+-- ---- the words of a new node
+module _ (ws : List ℕ) (top : ℕ) where
+  pub fits-constant : {v : ℕ} → v < 2 ^ 32 → Fits ws top 0 v 56
+  unfolding factsOf valueOf closed plain eval size
+  fits-constant h = record { order = tt; facts-are = refl; value-is = omega arith }
+
+  pub fits-variable : {v : ℕ} → v < mostVariables → Fits ws top v 0 49
+  unfolding factsOf valueOf closed plain size
+  fits-variable h = record { order = h; facts-are = refl; value-is = omega arith }
+
+-- whether a pair of nodes is plain, by their marks a and b
+module _ {ws : List ℕ} {top tag left right : ℕ} (f : Formed ws top) (i : (left < top) × (right < top)) where
+  pub both-plain : {a b x y : ℕ} → (1 < tag) × (tag < 4) → a ≡ marksAt ws left → b ≡ marksAt ws right → x ≡ a / 16 % 2 → y ≡ b / 16 % 2 → x * y ≡ bit (plain (operationOf tag (termAt ws left) (termAt ws right)))
+  both-plain h ea eb ex ey =
+      rw (ex, ey, ea, eb, plain-bit (marksAt ws left) (termAt ws left) (f .shaped .marked left (i .0) .facts), plain-bit (marksAt ws right) (termAt ws right) (f .shaped .marked right (i .1) .facts))
+      (sym (pair-plain (termAt ws left) (termAt ws right) tag h))
+
+-- a mask is not plain, and has no value
+pub mask-bit : (s t : Term) (tag : ℕ) → 4 ≤ tag → 0 ≡ bit (plain (operationOf tag s t))
+mask-bit s t tag h = rw (mask-plain s t tag h)
+
+pub mask-no-value : (s t : Term) (tag : ℕ) → 4 ≤ tag → 0 ≡ valueOf (operationOf tag s t)
+mask-no-value s t tag h = sym (no-value (operationOf tag s t) false (rw (mask-plain s t tag h) (and-false (closed (operationOf tag s t)))) refl)
+
+-- a pair of nodes: a and b are their marks, x and y the nodes that stand for their terms
+module _ {ws : List ℕ} {top tag left right : ℕ} (f : Formed ws top) (h : (1 < tag) × (tag < 5)) (i : (left < top) × (right < top)) {a b x y plainness value facts : ℕ}
+    (ea : a ≡ marksAt ws left) (eb : b ≡ marksAt ws right) (ex : (x ≡ high a) × (x < 65536)) (ey : (y ≡ high b) × (y < 65536))
+    (v : value ≡ valueOf (operationOf tag (termAt ws left) (termAt ws right))) (l : plainness ≡ bit (plain (operationOf tag (termAt ws left) (termAt ws right)))) (e : facts ≡ tag + 8 * ((a / 8 % 2) * (b / 8 % 2)) + 16 * plainness + 32 * capped (low a / 32 + low b / 32 + 1)) where
+  abbrev parts : ℕ
+  parts = x + 65536 * y
+
+  marked-left : Marked ws left
+  marked-left = f .shaped .marked left (i .0)
+
+  marked-right : Marked ws right
+  marked-right = f .shaped .marked right (i .1)
+
+  facts-left : low a ≡ factsOf (termAt ws left)
+  facts-left = rw ea (marked-left .facts)
+
+  facts-right : low b ≡ factsOf (termAt ws right)
+  facts-right = rw eb (marked-right .facts)
+
+  joined-facts : facts ≡ factsOf (operationOf tag (termAt ws left) (termAt ws right))
+  joined-facts =
+      e
+      ∙ rw (l, closed-bit a (termAt ws left) facts-left, closed-bit b (termAt ws right) facts-right, size-in a (termAt ws left) facts-left, size-in b (termAt ws right) facts-right)
+      (sym (pair-facts (termAt ws left) (termAt ws right) tag h))
+
+  tag-of : facts % 8 ≡ tag
+  tag-of = omega arith
+
+  low-parts : low parts ≡ high (marksAt ws left)
+  low-parts = let m : low parts ≡ x = omega arith in m ∙ ex .0 ∙ ap high ea
+
+  high-parts : high parts ≡ high (marksAt ws right)
+  high-parts = let m : high parts ≡ y = omega arith in m ∙ ey .0 ∙ ap high eb
+
+  parts-before : (low parts < top) × (high parts < top)
+  parts-before = (omega (arith, marked-left .before, low-parts), omega (arith, marked-right .before, high-parts))
+
+  pair-term : termOf ws parts value facts ≡ operationOf tag (termAt ws left) (termAt ws right)
+  pair-term = rw tag-of (pair-built (termAt ws) tag parts value h ∙ rw (low-parts, high-parts, marked-left .twin, marked-right .twin))
+
+  pub fits-pair : Fits ws top parts value facts
+  fits-pair = record { order = rw tag-of (at-pair (λ t. InOrder top (nodeOfTag t parts value)) parts-before parts-before parts-before tag h); facts-are = rw pair-term joined-facts; value-is = rw pair-term v }
+
+  pub put-as-pair : {us : List ℕ} → Put ws us top (termOf ws parts value facts) → Put ws us top (operationOf tag (termAt ws left) (termAt ws right))
+  put-as-pair {us} p = subst (Put ws us top) pair-term p
+
+-- a shift of a node: a are its marks, x the node that stands for its term
+module _ {ws : List ℕ} {top count part : ℕ} (f : Formed ws top) (i : (count ≤ mostCount) × (part < top)) {a x c facts : ℕ}
+    (ea : a ≡ marksAt ws part) (ex : (x ≡ high a) × (x < 65536)) (ec : c ≡ count) (e : facts ≡ 5 + 8 * (a / 8 % 2) + 32 * capped (low a / 32 + 1)) where
+  abbrev shiftParts : ℕ
+  shiftParts = x + 65536 * c
+
+  marked-part : Marked ws part
+  marked-part = f .shaped .marked part (i .1)
+
+  facts-part : low a ≡ factsOf (termAt ws part)
+  facts-part = rw ea (marked-part .facts)
+
+  low-shift : low shiftParts ≡ high (marksAt ws part)
+  low-shift = let m : low shiftParts ≡ x = omega arith in m ∙ ex .0 ∙ ap high ea
+
+  high-shift : high shiftParts ≡ count
+  high-shift = omega arith
+
+  shift-node : nodeOfTag (facts % 8) shiftParts 0 ≡ Shift count (high (marksAt ws part))
+  shift-node = let m : facts % 8 ≡ 5 = omega arith in rw (m, low-shift, high-shift)
+
+  shift-term : termOf ws shiftParts 0 facts ≡ shift count (termAt ws part)
+  shift-term = ap (build (termAt ws)) shift-node ∙ ap (shift count) (marked-part .twin)
+
+  pub fits-shift : Fits ws top shiftParts 0 facts
+  unfolding valueOf plain
+  fits-shift = record {
+    order = rw shift-node (omega (arith, marked-part .before));
+    facts-are = rw shift-term (e ∙ rw (closed-bit a (termAt ws part) facts-part, size-in a (termAt ws part) facts-part) (sym (shift-facts (termAt ws part) (termAt ws part) count)));
+    value-is = rw (shift-term, and-false (closed (shift count (termAt ws part)))) (omega arith);
+  }
+
+  pub put-as-shift : {us : List ℕ} → Put ws us top (termOf ws shiftParts 0 facts) → Put ws us top (shift count (termAt ws part))
+  put-as-shift {us} p = subst (Put ws us top) shift-term p
+
+-- ---- the value of a pair
+pub both-hold : {a b x y : Bool} → x ≡ a → y ≡ b → (x && y) ≡ true → (a ≡ true) × (b ≡ true)
+both-hold {a} {b} {x} {y} p q h = (sym p ∙ and-left x y h, sym q ∙ and-right x y h)
+
+module _ {ws : List ℕ} {left right : ℕ} (f : Formed ws (suc left)) (g : Formed ws (suc right)) (tag : ℕ) where
+  abbrev pairOf : Term
+  pairOf = operationOf tag (termAt ws left) (termAt ws right)
+
+  both-valued : (1 < tag) × (tag < 4) → (closed pairOf && plain pairOf) ≡ (valuedAt ws left && valuedAt ws right)
+  both-valued h = rw (valued-at (marks-here (f .shaped)), valued-at (marks-here (g .shaped))) (pair-valued (termAt ws left) (termAt ws right) tag h)
+
+  pub computed-pair : {x y r : ℕ} → (1 < tag) × (tag < 4) → valuedAt ws left ≡ true → valuedAt ws right ≡ true → x ≡ valueAt ws left → y ≡ valueAt ws right → r ≡ pairValue tag x y → r ≡ valueOf pairOf
+  computed-pair h l m p q e =
+      e
+      ∙ rw (p, q, value-is-kept f l, value-is-kept g m) (sym (pair-eval tag (termAt ws left) (termAt ws right) (h .0)))
+      ∙ sym (kept-value pairOf (valuedAt ws left && valuedAt ws right) (both-valued h) (rw (l, m)))
+
+  pub computed-none : (1 < tag) × (tag < 4) → (valuedAt ws left && valuedAt ws right) ≡ false → 0 ≡ valueOf pairOf
+  computed-none h o = sym (no-value pairOf (valuedAt ws left && valuedAt ws right) (both-valued h) o)
+
+-- ---- the node for words
+module _ {ws : List ℕ} {top parts value facts : ℕ} where
+  pub find-hinted : {n : ℕ} → n < top → true ≡ (eqb (partsAt ws n) parts && eqb (valueAt ws n) value && eqb (low (marksAt ws n)) facts) → Twinned ws ws top parts value facts n
+  unfolding viewOf
+  find-hinted {n} h e =
+      let a : Bool = eqb (partsAt ws n) parts in
+      let b : Bool = eqb (valueAt ws n) value in
+      let c : Bool = eqb (low (marksAt ws n)) facts in
+      let x : partsAt ws n ≡ parts = eqb-true (partsAt ws n) parts (and-left a b (and-left (a && b) c (sym e))) in
+      let y : valueAt ws n ≡ value = eqb-true (valueAt ws n) value (and-right a b (and-left (a && b) c (sym e))) in
+      let z : low (marksAt ws n) ≡ facts = eqb-true (low (marksAt ws n)) facts (and-right (a && b) c (sym e)) in
+      let t : marksAt ws n % 8 ≡ facts % 8 = omega arith in
+      record { kept = same-refl 0 hintBase ws; found = inr (h, rw (t, x, y)) }
+
+  pub find-new : {us : List ℕ} {at : ℕ} (w : ℕ) → hintBase ≤ at → us ≡ set ws at w → Twinned ws us top parts value facts top
+  find-new {us} {at} w h e = record { kept = subst (Same 0 hintBase ws) (sym e) (set-before ws at w 0 hintBase h); found = inl refl }
