@@ -13,7 +13,7 @@ use Rattle.model.specs.Linear.{sameForm}
 use Rattle.model.proofs.Gives.{Gives, gives, gives-then, gives-check, gives-value}
 use Rattle.model.proofs.Terms.{with-tag}
 use Rattle.model.specs.declared.Comparison.the-variants.{Equal, Less, AtMost}
-use Rattle.terms.specs.Table.{termAt, Formed, Put}
+use Rattle.nodes.specs.Table.{termAt, Formed, Put}
 use Rattle.workspace.specs.Layout.{hintBase, Same}
 use Rattle.forms.specs.Area.{Comparable}
 use Rattle.linear.specs.Comparison.{comparisonOf}

@@ -9,7 +9,7 @@ use claims::plans;
 use linear::FormComparison;
 use model::Comparison;
 ghost use Rattle.model.specs.Rule.{congruence, linear, zero-at-most, successor-at-most, below-successor, sum-no-overflow};
-ghost use Rattle.terms.specs.Table.{Formed, Space};
+ghost use Rattle.nodes.specs.Table.{Formed, Space};
 ghost use Rattle.claims.specs.Parts.{claimOf, ClaimBelow};
 ghost use Rattle.claims.specs.Plan.{newNodes, Planned, Anywhere, asks, always};
 ghost use Rattle.arithmetic_rules.specs.Forms.{Linear};

@@ -14,9 +14,9 @@ use Rattle.model.specs.declared.Comparison.{Comparison}
 use Rattle.model.specs.Verdict.{leastWorkspace}
 use Rattle.workspace.specs.Layout.{assumptionBase, mostAssumptions, tableBase, mostTableNodes, Same}
 use Rattle.model.specs.declared.Comparison.the-variants.{Equal, Unequal, Less, AtMost}
-use Rattle.terms.specs.Table.{low, high, place, Formed}
+use Rattle.nodes.specs.Table.{low, high, place, Formed}
 use Rattle.workspace.proofs.Frames.{same-within, set-before, set-after}
-use Rattle.terms.proofs.Table.{term-same, formed-same}
+use Rattle.nodes.proofs.Table.{term-same, formed-same}
 use Rattle.fields.proofs.Tags.{kind-tag}
 use Rattle.assumptions.specs.Area.{slot, packed, unpacked, entryOf, atomIn, listed, Listed, Pushed}
 

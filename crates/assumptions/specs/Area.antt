@@ -6,7 +6,7 @@ use lib.ListN.{length, getD}
 use Rattle.model.specs.Atom.{Atom, tagOf}
 use Rattle.model.specs.declared.Comparison.{Comparison}
 use Rattle.workspace.specs.Layout.{assumptionBase, mostAssumptions, Same}
-use Rattle.terms.specs.Table.{low, high, termAt}
+use Rattle.nodes.specs.Table.{low, high, termAt}
 use Rattle.fields.specs.Kind.{kindOf}
 use Rattle.assumptions.specs.declared.Assumption.{Assumption}
 

@@ -8,7 +8,7 @@ use Rattle.model.specs.Term.{Term, constant, eqTerm}
 use Rattle.model.specs.Rule.{sidesOf}
 use Rattle.model.specs.declared.Comparison.{Comparison}
 use Rattle.model_laws.proofs.Steps.{goes-on, check-passes}
-use Rattle.terms.specs.Table.{termAt, Formed}
+use Rattle.nodes.specs.Table.{termAt, Formed}
 use Rattle.claims.specs.Parts.{claimOf, Sides}
 use Rattle.claims.specs.Plan.{blank, plan, Planned, Anywhere, always}
 use Rattle.claims.specs.declared.Claim.{Claim}

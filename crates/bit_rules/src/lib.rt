@@ -7,7 +7,7 @@ use claims::parts::Shift;
 use claims::plans;
 use model::Comparison;
 ghost use Rattle.model.specs.Rule.{mask-at-most, shift-at-most, shift-bounded};
-ghost use Rattle.terms.specs.Table.{Formed};
+ghost use Rattle.nodes.specs.Table.{Formed};
 ghost use Rattle.claims.specs.Parts.{claimOf, ClaimBelow};
 ghost use Rattle.claims.specs.Plan.{Planned, Anywhere, asks};
 

@@ -17,7 +17,7 @@ use Rattle.model.specs.Linear.{variableBound}
 use Rattle.model.specs.Goals.{Path as ModelPath, registerVariables, blockStart, assuming}
 use Rattle.model.specs.Verdict.{leastWorkspace}
 use Rattle.workspace.specs.Layout.{mostVariables, mostAssumptions, mostTableNodes, tableBase, Same}
-use Rattle.terms.specs.Table.{place, termAt, Formed, Space, Put}
+use Rattle.nodes.specs.Table.{place, termAt, Formed, Space, Put}
 use Rattle.term_reader.specs.Reader.{RegisterTerms, Ready, ExpressionRead, AtomRead}
 use Rattle.term_reader.specs.declared.Parse.{Parse}
 use Rattle.term_reader.specs.declared.Parse.the-variants.{Term as Found}
@@ -28,7 +28,7 @@ use Rattle.term_reader.proofs.AtomParse.{enum as atom-enum}
 use Rattle.term_reader.proofs.Atoms.{told-expression, told-atom}
 use Rattle.term_reader.proofs.Substitution.{expression-self, atom-self}
 use Rattle.workspace.proofs.Frames.{same-refl, same-trans, same-within}
-use Rattle.terms.proofs.Table.{formed-none, term-same}
+use Rattle.nodes.proofs.Table.{formed-none, term-same}
 use Rattle.assumptions.specs.Area.{listed, Listed, Pushed}
 use Rattle.assumptions.proofs.Laws.{pushed-table}
 use Rattle.rule_reader.specs.Opening.{registerNodes}

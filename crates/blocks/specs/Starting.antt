@@ -11,7 +11,7 @@ use Rattle.model.specs.Annotation.{Annotation}
 use Rattle.model.specs.Goals.{registerVariables, blockStart, assuming, Path as ModelPath}
 use Rattle.model.specs.Verdict.{leastWorkspace}
 use Rattle.workspace.specs.Layout.{mostAssumptions, tableBase, Same}
-use Rattle.terms.specs.Table.{termAt, place, Formed, Space}
+use Rattle.nodes.specs.Table.{termAt, place, Formed, Space}
 use Rattle.term_reader.specs.Reader.{atomNodes}
 use Rattle.assumptions.specs.Area.{slot}
 use Rattle.forms.specs.Area.{Cleared}

@@ -11,7 +11,7 @@ ghost use Rattle.model.specs.Verdict.{leastWorkspace};
 ghost use Rattle.model.specs.Expression.{registerCount};
 ghost use Rattle.model.specs.Atom.{mostAtoms};
 ghost use Rattle.workspace.specs.Layout.{mostAssumptions, mostTableNodes};
-ghost use Rattle.terms.specs.Table.{termAt};
+ghost use Rattle.nodes.specs.Table.{termAt};
 ghost use Rattle.paths.specs.Walking.{PathIn};
 ghost use Rattle.blocks.specs.Starting.{Assumed, Workspace, Variables, Started, Fresh, AllAssumed, EntryBlock, AnnotationBlock};
 

@@ -13,9 +13,9 @@ use Rattle.model.specs.Term.{Term, constant, variable, sum, difference, mask, s
 use Rattle.model.specs.Atom.{tagOf, eqAtom}
 use Rattle.model.specs.Rule.{atomOf, sidesOf, pairOf, sumOf, differenceOf, maskOf, shiftOf, equalPairs, congruent}
 use Rattle.model.specs.declared.Comparison.{Comparison}
-use Rattle.terms.specs.Table.{low, high, partsAt, valueAt, marksAt, nodeOfTag, viewOf, build, termAt, Formed}
-use Rattle.terms.proofs.Table.{marks-here, built-here, shift-tag, first-part, second-part}
-use Rattle.terms.proofs.Facts.{tag-at}
+use Rattle.nodes.specs.Table.{low, high, partsAt, valueAt, marksAt, nodeOfTag, viewOf, build, termAt, Formed}
+use Rattle.nodes.proofs.Table.{marks-here, built-here, shift-tag, first-part, second-part}
+use Rattle.nodes.proofs.Facts.{tag-at}
 use Rattle.assumptions.specs.Area.{entryOf, atomIn}
 use Rattle.assumptions.specs.declared.Assumption.{Assumption}
 use Rattle.claims.specs.Parts.{Sides, Accesses, Operands, Shifts, Congruent}

@@ -13,9 +13,9 @@ use Rattle.model.specs.Goals.{Goal}
 use Rattle.model.specs.Rule.{atomOf, sidesOf}
 use Rattle.model.specs.declared.Comparison.{Comparison}
 use Rattle.workspace.specs.Layout.{tableBase, hintBase, Same}
-use Rattle.terms.specs.Table.{place, termAt, Formed, Space, Put}
+use Rattle.nodes.specs.Table.{place, termAt, Formed, Space, Put}
 use Rattle.workspace.proofs.Frames.{same-refl, same-trans, same-within}
-use Rattle.terms.proofs.Table.{term-same, formed-same, formed-less}
+use Rattle.nodes.proofs.Table.{term-same, formed-same, formed-less}
 use Rattle.claims.proofs.PartLaws.{neither, NotAtom}
 use Rattle.claims.specs.Parts.{claimOf, ClaimBelow, Sides, Operands, Shifts, Congruent}
 use Rattle.claims.specs.Plan.{premise, blank, plan, atomIn, Grows, Planned, Anywhere, asks, always, premiseAt, premisesFrom, premisesOf, restOf, PremiseBelow}

@@ -8,7 +8,7 @@ use Rattle.model.specs.Atom.{Atom, equal}
 use Rattle.model.specs.Rule.{sidesOf, sumOf, differenceOf, shiftOf, congruent}
 use Rattle.model.specs.Goals.{Claim as Claimed, atom, readable, writable}
 use Rattle.model.specs.declared.Comparison.{Comparison}
-use Rattle.terms.specs.Table.{termAt}
+use Rattle.nodes.specs.Table.{termAt}
 use Rattle.claims.specs.declared.Claim.{Claim}
 use Rattle.claims.specs.declared.Claim.the-variants.{Atom as AtomClaim, Readable, Writable}
 use Rattle.claims.specs.declared.parts.Access.{Access}

@@ -11,7 +11,7 @@ use Rattle.model.specs.Rule.{Rule, premises}
 use Rattle.model.specs.declared.Comparison.{Comparison}
 use Rattle.model.specs.declared.Comparison.the-variants.{Equal}
 use Rattle.workspace.specs.Layout.{Same}
-use Rattle.terms.specs.Table.{place, termAt, Formed}
+use Rattle.nodes.specs.Table.{place, termAt, Formed}
 use Rattle.claims.specs.declared.Claim.{Claim}
 use Rattle.claims.specs.declared.Claim.the-variants.{Atom as AtomClaim}
 use Rattle.claims.specs.declared.Premise.{Premise}

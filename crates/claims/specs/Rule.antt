@@ -4,7 +4,7 @@ use mathlib.Core.List.{List}
 use Prim.Native.Nat.{ℕ}
 use lib.ListN.{getElem?}
 use Rattle.model.specs.Rule.{Rule, Format, plain, with-index, with-term, with-region, rules, contradiction}
-use Rattle.terms.specs.Table.{termAt}
+use Rattle.nodes.specs.Table.{termAt}
 
 -- a row's rule with its argument: an index, a region's number or a node of the words us; contradiction stands where there is no row
 abbrev pub ruleIn : List ℕ → (argument : ℕ) → Option Format → Rule

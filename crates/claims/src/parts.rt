@@ -10,7 +10,7 @@ ghost use Rattle.model.specs.Rule.{pairOf, maskOf};
 ghost use Rattle.model.specs.Atom.{compares, eqAtom};
 ghost use Rattle.model.specs.Verdict.{leastWorkspace};
 ghost use Rattle.workspace.specs.Layout.{mostAssumptions};
-ghost use Rattle.terms.specs.Table.{termAt, Formed};
+ghost use Rattle.nodes.specs.Table.{termAt, Formed};
 ghost use Rattle.assumptions.specs.Area.{entryOf, atomIn};
 ghost use Rattle.claims.specs.Parts.{operandsFor, Sides, Accesses, Operands, Shifts, Congruent};
 
@@ -91,8 +91,8 @@ fn pair_of(ws: &[u32], i: usize, tag: u32) -> Pair
     requires { ⌜ (1 < tag) × (tag < 5) ⌝ }
     ensures { λ r. ⌜ Operands (now (ws .entry)) i r (pairOf tag (termAt (now (ws .entry)) i)) ⌝ }
 {
-    if terms::tag(ws, i) == tag {
-        Pair::Nodes(terms::first(ws, i), terms::second(ws, i))
+    if nodes::tag(ws, i) == tag {
+        Pair::Nodes(nodes::first(ws, i), nodes::second(ws, i))
     } else {
         Pair::Misfit
     }
@@ -122,8 +122,8 @@ pub fn shifted(ws: &[u32], i: usize) -> Shift
     requires { ⌜ Formed (now ws) (suc i) ⌝ }
     ensures { λ r. ⌜ Shifts (now (ws .entry)) i r ⌝ }
 {
-    if terms::tag(ws, i) == 5 {
-        Shift::By(terms::second(ws, i) as u32, terms::first(ws, i))
+    if nodes::tag(ws, i) == 5 {
+        Shift::By(nodes::second(ws, i) as u32, nodes::first(ws, i))
     } else {
         Shift::Misfit
     }
@@ -135,14 +135,14 @@ pub fn same_operation(ws: &[u32], i: usize, j: usize) -> Congruence
     requires { ⌜ Formed (now ws) (suc j) ⌝ }
     ensures { λ r. ⌜ Congruent (now (ws .entry)) i j r ⌝ }
 {
-    let tag = terms::tag(ws, i);
-    if (tag < 2) | (terms::tag(ws, j) != tag) {
+    let tag = nodes::tag(ws, i);
+    if (tag < 2) | (nodes::tag(ws, j) != tag) {
         return Congruence::Misfit;
     }
-    let a = terms::first(ws, i);
-    let b = terms::second(ws, i);
-    let c = terms::first(ws, j);
-    let d = terms::second(ws, j);
+    let a = nodes::first(ws, i);
+    let b = nodes::second(ws, i);
+    let c = nodes::first(ws, j);
+    let d = nodes::second(ws, j);
     if tag < 5 {
         return Congruence::Pairs(a, b, c, d);
     }
@@ -158,7 +158,7 @@ pub fn is_constant(ws: &[u32], i: usize, value: u32) -> bool
     requires { ⌜ Formed (now ws) (suc i) ⌝ }
     ensures { λ r. ⌜ r ≡ eqTerm (termAt (now (ws .entry)) i) (constant value) ⌝ }
 {
-    (terms::tag(ws, i) == 0) & (terms::value(ws, i) == value)
+    (nodes::tag(ws, i) == 0) & (nodes::value(ws, i) == value)
 }
 
 // Whether a comparison of two nodes is assumption k, node by node.

@@ -16,9 +16,9 @@ use Rattle.model.specs.declared.Refusal.the-variants.{UnfitRule}
 use Rattle.model.proofs.Gives.{gives-value}
 use Rattle.model.proofs.Lists.{Every, every-head, every-tail}
 use Rattle.workspace.specs.Layout.{assumptionBase, tableBase, Same}
-use Rattle.terms.specs.Table.{place, Formed}
+use Rattle.nodes.specs.Table.{place, Formed}
 use Rattle.workspace.proofs.Frames.{same-trans, same-within}
-use Rattle.terms.proofs.Table.{formed-same}
+use Rattle.nodes.proofs.Table.{formed-same}
 use Rattle.term_reader.proofs.Substitution.{register-terms-same}
 use Rattle.assumptions.specs.Area.{listed}
 use Rattle.assumptions.proofs.Laws.{held-kept, listed-kept}

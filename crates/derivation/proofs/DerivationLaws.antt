@@ -13,7 +13,7 @@ use Rattle.model.specs.Derivation.{ruleAt, deriveAll, derive}
 use Rattle.model.specs.declared.Refusal.{Refusal}
 use Rattle.model.specs.declared.Refusal.the-variants.{UnfitRule, DeepDerivation}
 use Rattle.workspace.specs.Layout.{Same}
-use Rattle.terms.specs.Table.{place, Space}
+use Rattle.nodes.specs.Table.{place, Space}
 use Rattle.workspace.proofs.Frames.{same-refl, same-trans, same-within}
 use Rattle.claims.specs.Parts.{claimOf}
 use Rattle.claims.specs.Plan.{atomIn, restOf, premiseAt, premiseClaim, premisesFrom, premisesOf}

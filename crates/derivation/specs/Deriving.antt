@@ -13,7 +13,7 @@ use Rattle.model.specs.declared.Refusal.{Refusal}
 use Rattle.model.specs.declared.Refusal.the-variants.{UnfitRule}
 use Rattle.model.specs.Expression.{registerCount, mostNodes}
 use Rattle.workspace.specs.Layout.{Same, mostVariables}
-use Rattle.terms.specs.Table.{place, Formed, Space}
+use Rattle.nodes.specs.Table.{place, Formed, Space}
 use Rattle.term_reader.specs.Reader.{RegisterTerms}
 use Rattle.assumptions.specs.Area.{listed, Listed}
 use Rattle.forms.specs.Area.{Cleared}

@@ -20,7 +20,7 @@ use Rattle.model.specs.declared.Refusal.{Refusal}
 use Rattle.model.specs.declared.Refusal.the-variants.{ProofLeft}
 use Rattle.model.specs.Atom.{mostAtoms}
 use Rattle.workspace.specs.Layout.{assumptionBase, Same}
-use Rattle.terms.specs.Table.{termAt}
+use Rattle.nodes.specs.Table.{termAt}
 use Rattle.workspace.proofs.Frames.{same-within}
 use Rattle.forms.specs.Area.{Cleared}
 use Rattle.annotations.specs.Annotations.{annotationAtPlace}

@@ -17,7 +17,7 @@ use Rattle.model.specs.declared.Instruction.{Instruction}
 use Rattle.model.specs.declared.Instruction.the-variants.{Return}
 use Rattle.model.specs.Package.{mostInstructions}
 use Rattle.workspace.specs.Layout.{assumptionBase, Same}
-use Rattle.terms.specs.Table.{termAt}
+use Rattle.nodes.specs.Table.{termAt}
 use Rattle.workspace.proofs.Frames.{same-refl, same-trans, same-within}
 use Rattle.routine.specs.Code.{Formed, instructionResult, FormedIfPassed, InstructionRead}
 use Rattle.routine.specs.declared.instructions.InstructionAnswer.{InstructionAnswer}

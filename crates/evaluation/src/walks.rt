@@ -19,7 +19,7 @@ use routine::instructions;
 use routine::instructions::InstructionAnswer;
 ghost use mathlib.Core.Path.{_≡_};
 ghost use Prim.Native.Nat.{_+_, _<_};
-ghost use Rattle.terms.specs.Table.{termAt};
+ghost use Rattle.nodes.specs.Table.{termAt};
 ghost use Rattle.header.specs.Headers.{Fits};
 ghost use Rattle.routine.specs.Code.{Formed};
 ghost use Rattle.goals.specs.Judging.{Reached};

@@ -16,8 +16,8 @@ use Rattle.model.proofs.Terms.{and-left, and-right}
 use Rattle.model.proofs.Indeterminates.{same-everywhere, same-in-list}
 use Rattle.model.proofs.Words.{_≈_, same-word, add-cong, add-cancel, add-plain, sub-plain, add-below, sub-below}
 use Rattle.workspace.specs.Layout.{constantWord, areaWords}
-use Rattle.terms.specs.Table.{plain, valueOf}
-use Rattle.terms.proofs.Facts.{kept-value}
+use Rattle.nodes.specs.Table.{plain, valueOf}
+use Rattle.nodes.proofs.Facts.{kept-value}
 use Rattle.forms.specs.Area.{formIf, formAt, signed, allZero}
 use Rattle.forms.specs.Entries.{opaque, Entry, inWord, ofTerm, Valid, numberAt, Unlike}
 

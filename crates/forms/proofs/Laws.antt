@@ -15,12 +15,12 @@ use Rattle.model.specs.Term.{Term, constant, variable, sum, difference}
 use Rattle.model.specs.Linear.{variableBound}
 use Rattle.model.proofs.Terms.{and-left, and-right}
 use Rattle.workspace.specs.Layout.{tableBase, Same, constantWord, areaWords}
-use Rattle.terms.specs.Table.{place, viewOf, build, termAt, plain, Formed}
-use Rattle.terms.specs.declared.Node.{Node}
-use Rattle.terms.specs.declared.Node.the-variants.{Constant, Variable, Sum, Difference, Mask, Shift}
-use Rattle.terms.proofs.Node.{enum as node-enum}
+use Rattle.nodes.specs.Table.{place, viewOf, build, termAt, plain, Formed}
+use Rattle.nodes.specs.declared.Node.{Node}
+use Rattle.nodes.specs.declared.Node.the-variants.{Constant, Variable, Sum, Difference, Mask, Shift}
+use Rattle.nodes.proofs.Node.{enum as node-enum}
 use Rattle.workspace.proofs.Frames.{same-refl, same-within, same-trans}
-use Rattle.terms.proofs.Table.{node-order, node-built, part, term-same, formed-same}
+use Rattle.nodes.proofs.Table.{node-order, node-built, part, term-same, formed-same}
 use Rattle.forms.specs.Area.{formAt, signed, Bounded, Tree, Accumulated, Cleared, allZero, Taken, Emptied}
 use Rattle.forms.proofs.Forms.{signed-zero, constant-here, constant-else, variable-here, variable-else, word-sum, word-difference, clash}
 

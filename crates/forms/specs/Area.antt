@@ -10,7 +10,7 @@ use Rattle.model.specs.Word.{addW, subW}
 use Rattle.model.specs.Term.{Term, variable}
 use Rattle.model.specs.Linear.{constantOf, coefficientOf, variableBound}
 use Rattle.workspace.specs.Layout.{constantWord, areaWords, Same}
-use Rattle.terms.specs.Table.{termAt, plain, Formed}
+use Rattle.nodes.specs.Table.{termAt, plain, Formed}
 
 -- the number of a term's linear form that belongs to word k
 abbrev pub formIf : Bool → ℕ → Term → ℕ

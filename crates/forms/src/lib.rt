@@ -1,12 +1,12 @@
 // The words in which linear forms modulo 2^32 (rule 12) are reckoned, the workspace's first: word v for variable v, and one word for the
 // constant. They are all zero between uses. Small terms are walked as trees.
-use terms::Node;
+use nodes::Node;
 use workspace::CONSTANT;
 ghost use mathlib.Core.Path.{_≡_};
 ghost use Prim.Native.Nat.{_≤_, _<_};
 ghost use lib.ListN.{length, getD, set};
 ghost use Rattle.workspace.specs.Layout.{constantWord, areaWords};
-ghost use Rattle.terms.specs.Table.{termAt};
+ghost use Rattle.nodes.specs.Table.{termAt};
 ghost use Rattle.forms.specs.Area.{signed, Tree, Accumulated, Taken, Emptied};
 
 // Adds x to a word, or subtracts it.
@@ -26,7 +26,7 @@ pub fn accumulate(ws: &mut [u32], i: usize, negative: bool)
     requires { ⌜ Tree (now ws) i constantWord ⌝ }
     ensures { λ _. ⌜ Accumulated (now (ws .entry)) (now (ws .exit)) negative (termAt (now (ws .entry)) i) ⌝ }
 {
-    match terms::view(ws, i) {
+    match nodes::view(ws, i) {
         Node::Constant(n) => change(ws, CONSTANT, n, negative),
         Node::Variable(v) => change(ws, fields::wide(v), 1, negative),
         Node::Sum(l, r) => {

@@ -16,7 +16,7 @@ use Rattle.model.specs.declared.Comparison.the-variants.{AtMost}
 use Rattle.model.specs.declared.Refusal.{Refusal}
 use Rattle.model.specs.declared.Region.{Region}
 use Rattle.workspace.specs.Layout.{Same}
-use Rattle.terms.specs.Table.{place, termAt, Formed, Space, Put}
+use Rattle.nodes.specs.Table.{place, termAt, Formed, Space, Put}
 use Rattle.term_reader.specs.Reader.{ExpressionRead}
 use Rattle.term_reader.specs.declared.Parse.{Parse}
 use Rattle.term_reader.specs.declared.Parse.the-variants.{Term as FoundTerm}

@@ -5,7 +5,7 @@ use Prim.Native.Nat.{ℕ, _+_, _≤_}
 use native.Mathlib.Omega.{arith}
 use lib.ListN.{length}
 use Rattle.workspace.specs.Layout.{Same}
-use Rattle.terms.specs.Table.{place}
+use Rattle.nodes.specs.Table.{place}
 use Rattle.paths.specs.declared.Path.{Path}
 use Rattle.paths.specs.Walking.{raisedTo}
 use Rattle.paths.proofs.Walking.{path-kept, Above}

@@ -16,7 +16,7 @@ use Rattle.model.specs.declared.Comparison.{Comparison}
 use Rattle.model.specs.declared.Refusal.{Refusal}
 use Rattle.model.specs.declared.Region.{Region}
 use Rattle.workspace.specs.Layout.{Same}
-use Rattle.terms.specs.Table.{place, termAt}
+use Rattle.nodes.specs.Table.{place, termAt}
 use Rattle.term_reader.specs.Reader.{AtomRead}
 use Rattle.term_reader.specs.declared.AtomParse.{AtomParse}
 use Rattle.term_reader.specs.declared.AtomParse.the-variants.{Atom as FoundAtom}

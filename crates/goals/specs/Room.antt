@@ -3,7 +3,7 @@ use mathlib.Core.List.{List}
 use Prim.Native.Nat.{ℕ, _+_, _*_}
 use Rattle.model.specs.Expression.{mostNodes}
 use Rattle.model.specs.Derivation.{mostLevels}
-use Rattle.terms.specs.Table.{Space}
+use Rattle.nodes.specs.Table.{Space}
 use Rattle.term_reader.specs.Reader.{atomNodes}
 use Rattle.claims.specs.Regions.{RegionWords}
 use Rattle.derivation.specs.Deriving.{levelRoom}

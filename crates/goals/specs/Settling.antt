@@ -12,7 +12,7 @@ use Rattle.model.specs.Annotation.{Annotation}
 use Rattle.model.specs.Goals.{Claim, atom, Path, goalOf, atomGoals, arrival, returning}
 use Rattle.model.specs.declared.Region.{Region}
 use Rattle.workspace.specs.Layout.{Same}
-use Rattle.terms.specs.Table.{place}
+use Rattle.nodes.specs.Table.{place}
 use Rattle.goals.specs.declared.Progress.{Progress}
 use Rattle.goals.specs.declared.Judged.{Judged}
 use Rattle.goals.specs.Judging.{ReachedAfter, Judges}

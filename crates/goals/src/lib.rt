@@ -11,7 +11,7 @@ use term_reader::AtomParse;
 use term_reader::Parse;
 ghost use Prim.Native.Nat.{_+_, _≤_, _<_};
 ghost use lib.ListN.{length};
-ghost use Rattle.terms.specs.Table.{termAt};
+ghost use Rattle.nodes.specs.Table.{termAt};
 ghost use Rattle.claims.specs.Parts.{claimOf};
 ghost use Rattle.claims.specs.Regions.{regionsOf};
 ghost use Rattle.paths.specs.Walking.{pathOf, NodeIn, ClaimIn};

@@ -21,9 +21,9 @@ use Rattle.model.specs.declared.Refusal.the-variants.{Unannotated}
 use Rattle.model.specs.Verdict.{leastWorkspace}
 use Rattle.model.specs.Package.{mostInstructions}
 use Rattle.workspace.specs.Layout.{tableBase, mostAssumptions, mostTableNodes, Same}
-use Rattle.terms.specs.Table.{place, termAt}
+use Rattle.nodes.specs.Table.{place, termAt}
 use Rattle.workspace.proofs.Frames.{same-refl}
-use Rattle.terms.proofs.Table.{term-same}
+use Rattle.nodes.proofs.Table.{term-same}
 use Rattle.assumptions.specs.Area.{slot, atomIn}
 use Rattle.assumptions.specs.declared.Assumption.{Assumption}
 use Rattle.annotations.specs.Annotations.{annotationAtPlace}

@@ -12,7 +12,7 @@ use Rattle.model.specs.Goals.{Path as ModelPath, arrival, branch}
 use Rattle.model.specs.declared.Comparison.{Comparison}
 use Rattle.model.specs.declared.Comparison.the-variants.{Equal, Unequal, Less, AtMost}
 use Rattle.workspace.specs.Layout.{Same}
-use Rattle.terms.specs.Table.{place}
+use Rattle.nodes.specs.Table.{place}
 use Rattle.assumptions.specs.Area.{atomIn}
 use Rattle.assumptions.specs.declared.Assumption.{Assumption}
 use Rattle.goals.specs.Judging.{ReachedAfter, Judges}

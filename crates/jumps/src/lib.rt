@@ -21,7 +21,7 @@ ghost use Rattle.model.specs.Result.{value};
 ghost use Rattle.model.specs.Expression.{registerCount, atomsAt};
 ghost use Rattle.model.specs.Goals.{jump, pathTo, ends, returning};
 ghost use Rattle.model.specs.Package.{mostInstructions};
-ghost use Rattle.terms.specs.Table.{termAt};
+ghost use Rattle.nodes.specs.Table.{termAt};
 ghost use Rattle.claims.specs.Regions.{regionsOf, RegionWords};
 ghost use Rattle.goals.specs.Judging.{Reached};
 ghost use Rattle.paths.specs.Walking.{pathOf, NodeIn};

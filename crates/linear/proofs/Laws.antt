@@ -12,9 +12,9 @@ use Rattle.model.specs.Term.{Term}
 use Rattle.model.specs.Linear.{sameForm}
 use Rattle.model.proofs.Terms.{and-left}
 use Rattle.workspace.specs.Layout.{Same, constantWord, areaWords, hintBase}
-use Rattle.terms.specs.Table.{high, marksAt, termAt, plain}
+use Rattle.nodes.specs.Table.{high, marksAt, termAt, plain}
 use Rattle.workspace.proofs.Frames.{same-refl, same-within}
-use Rattle.terms.proofs.Table.{same-terms}
+use Rattle.nodes.proofs.Table.{same-terms}
 use Rattle.forms.specs.Area.{Tree, Accumulated, Comparable, Emptied}
 use Rattle.weights.specs.Weights.{Reckoned}
 use Rattle.linear.specs.Comparison.{comparisonOf}

@@ -2,7 +2,7 @@
 ghost use mathlib.Core.Path.{_≡_};
 ghost use Rattle.model.specs.Linear.{sameForm};
 ghost use Rattle.workspace.specs.Layout.{constantWord, hintBase, Same};
-ghost use Rattle.terms.specs.Table.{termAt};
+ghost use Rattle.nodes.specs.Table.{termAt};
 ghost use Rattle.forms.specs.Area.{Comparable};
 ghost use Rattle.weights.specs.Weights.{Reckoned};
 ghost use Rattle.linear.specs.Comparison.{comparisonOf};
@@ -22,8 +22,8 @@ fn reckon(ws: &mut [u32], i: usize, j: usize) -> bool
     requires { ⌜ Comparable (now ws) i j constantWord ⌝ }
     ensures { λ r. ⌜ Reckoned (now (ws .entry)) (now (ws .exit)) (termAt (now (ws .entry)) i) (termAt (now (ws .entry)) j) r ⌝ }
 {
-    let plain = terms::plain(ws, i) & terms::plain(ws, j);
-    if plain & terms::at_most(ws, i, SMALL) & terms::at_most(ws, j, SMALL) {
+    let plain = nodes::plain(ws, i) & nodes::plain(ws, j);
+    if plain & nodes::at_most(ws, i, SMALL) & nodes::at_most(ws, j, SMALL) {
         forms::accumulate(ws, i, false);
         forms::accumulate(ws, j, true);
         return true;
@@ -43,7 +43,7 @@ pub fn compare(ws: &mut [u32], i: usize, j: usize, variables: usize) -> FormComp
     ensures { λ r. ⌜ r ≡ comparisonOf (sameForm (termAt (now (ws .entry)) i) (termAt (now (ws .entry)) j)) ⌝ }
     ensures { λ _. ⌜ Same 0 hintBase (now (ws .entry)) (now (ws .exit)) ⌝ }
 {
-    if terms::twins(ws, i, j) {
+    if nodes::twins(ws, i, j) {
         return FormComparison::Same;
     }
     let opaque = reckon(ws, i, j);

@@ -15,7 +15,7 @@ use Rattle.model.specs.declared.Comparison.{Comparison}
 use Rattle.model.specs.declared.Comparison.the-variants.{Less}
 use Rattle.model.specs.Verdict.{leastWorkspace}
 use Rattle.workspace.specs.Layout.{mostAssumptions}
-use Rattle.terms.specs.Table.{termAt, Formed}
+use Rattle.nodes.specs.Table.{termAt, Formed}
 use Rattle.term_walks.specs.Closed.{valueIf, closedValue}
 use Rattle.term_walks.specs.declared.Closed.the-variants.{Value, Open}
 use Rattle.assumptions.specs.Area.{entryOf, atomIn as entryAtom, listed, Listed}

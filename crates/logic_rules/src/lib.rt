@@ -12,7 +12,7 @@ ghost use lib.ListN.{length};
 ghost use Rattle.model.specs.Goals.{Claim as Claimed};
 ghost use Rattle.model.specs.Rule.{assumption, evaluation, contradiction};
 ghost use Rattle.model.specs.Verdict.{leastWorkspace};
-ghost use Rattle.terms.specs.Table.{termAt, Formed};
+ghost use Rattle.nodes.specs.Table.{termAt, Formed};
 ghost use Rattle.assumptions.specs.Area.{listed, Listed};
 ghost use Rattle.claims.specs.Parts.{claimOf, ClaimBelow};
 ghost use Rattle.claims.specs.Plan.{Planned, Anywhere, Assuming, asks, always};

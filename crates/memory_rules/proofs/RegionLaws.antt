@@ -13,7 +13,7 @@ use Rattle.model.specs.Policy.{Policy}
 use Rattle.model.specs.Goals.{Goal}
 use Rattle.model.specs.Rule.{regionPremises}
 use Rattle.model.specs.declared.Comparison.the-variants.{Less, AtMost}
-use Rattle.terms.specs.Table.{termAt, Formed, Put}
+use Rattle.nodes.specs.Table.{termAt, Formed, Put}
 use Rattle.claims.specs.Parts.{claimOf, Accesses}
 use Rattle.claims.specs.Plan.{premise, plan, Planned}
 use Rattle.memory_rules.specs.Access.{inRegion, regionAsks}

@@ -6,7 +6,7 @@ use claims::plans;
 use model::Comparison;
 ghost use mathlib.Core.Path.{_≡_};
 ghost use Prim.Native.Nat.{_-_, _<_, _≤_};
-ghost use Rattle.terms.specs.Table.{Formed, Space};
+ghost use Rattle.nodes.specs.Table.{Formed, Space};
 ghost use Rattle.claims.specs.Parts.{claimOf, ClaimBelow};
 ghost use Rattle.claims.specs.Plan.{newNodes, Planned};
 ghost use Rattle.claims.specs.Regions.{regionsOf, RegionWords, Over};

@@ -12,7 +12,7 @@ use Rattle.model.specs.Goals.{Claim, Goal, Path as ModelPath, goes, goalOf, onw
 use Rattle.model.specs.declared.Region.{Region}
 use Rattle.model.specs.declared.Refusal.{Refusal}
 use Rattle.model.specs.Expression.{registerCount}
-use Rattle.terms.specs.Table.{place, termAt, Put}
+use Rattle.nodes.specs.Table.{place, termAt, Put}
 use Rattle.workspace.proofs.Frames.{same-trans, same-within}
 use Rattle.paths.specs.declared.Path.{Path}
 use Rattle.goals.specs.declared.Progress.{Progress}

@@ -14,9 +14,9 @@ use Rattle.model.specs.declared.Refusal.the-variants.{LargeTerm}
 use Rattle.model.specs.Expression.{registerCount, mostCount}
 use Rattle.model.specs.Package.{mostInstructions}
 use Rattle.workspace.specs.Layout.{tableBase}
-use Rattle.terms.specs.Table.{operationOf, place, termAt, Formed, Space, Put}
+use Rattle.nodes.specs.Table.{operationOf, place, termAt, Formed, Space, Put}
 use Rattle.workspace.proofs.Frames.{same-trans, same-within}
-use Rattle.terms.proofs.Table.{term-same, formed-less}
+use Rattle.nodes.proofs.Table.{term-same, formed-less}
 use Rattle.paths.specs.declared.Path.{Path}
 use Rattle.goals.specs.declared.Progress.{Progress}
 use Rattle.moves.specs.declared.Moved.{Moved}

@@ -11,7 +11,7 @@ use Rattle.model.specs.Goals.{assigning}
 use Rattle.model.specs.Expression.{registerCount}
 use Rattle.model.specs.Package.{mostInstructions}
 use Rattle.workspace.specs.Layout.{mostVariables}
-use Rattle.terms.specs.Table.{termAt}
+use Rattle.nodes.specs.Table.{termAt}
 use Rattle.assumptions.specs.Area.{listed}
 use Rattle.paths.specs.declared.Path.{Path}
 use Rattle.paths.specs.Walking.{pathOf, NodeIn, PathIn, steppedTo, writtenTo, oneVariable, Kept}

@@ -15,7 +15,7 @@ use Rattle.model.specs.declared.Region.{Region}
 use Rattle.model.specs.declared.Verdict.{Verdict}
 use Rattle.model.specs.declared.Refusal.the-variants.{LargeTerm}
 use Rattle.workspace.specs.Layout.{mostAssumptions, mostTableNodes, Same, mostVariables}
-use Rattle.terms.specs.Table.{termAt, place}
+use Rattle.nodes.specs.Table.{termAt, place}
 use Rattle.goals.specs.Judging.{Reached}
 use Rattle.paths.specs.Walking.{pathOf, raisedTo, NodeIn, PathIn, steppedTo, writtenTo, Kept}
 use Rattle.goals.specs.Room.{goalRoom}

@@ -11,7 +11,7 @@ ghost use Rattle.model.specs.Term.{constant, shift as shiftOf, size};
 ghost use Rattle.model.specs.Goals.{termOf, mostTermNodes};
 ghost use Rattle.model.specs.Expression.{registerCount, mostCount};
 ghost use Rattle.model.specs.Package.{mostInstructions};
-ghost use Rattle.terms.specs.Table.{operationOf, termAt, Formed};
+ghost use Rattle.nodes.specs.Table.{operationOf, termAt, Formed};
 ghost use Rattle.paths.specs.Walking.{pathOf};
 ghost use Rattle.moves.specs.Moves.{RoomFor, Built, assignedAs, Assigns};
 
@@ -29,7 +29,7 @@ fn assign(ws: &[u32], path: Path, d: u8, node: usize, progress: Progress) -> Mov
     requires { ⌜ (node < 65536) × Formed (now ws) (suc node) ⌝ }
     ensures { λ r. ⌜ r ≡ assignedAs (leb (size (termAt (now (ws .entry)) node)) mostTermNodes) path d node progress ⌝ }
 {
-    if terms::small(ws, node) {
+    if nodes::small(ws, node) {
         return Moved {
             path: paths::stepped(paths::written(path, d, node), path.counter + 1),
             answer: MovedAnswer::On(progress),

@@ -11,7 +11,7 @@ use Rattle.model.specs.Term.{Term, substitute}
 use Rattle.model.specs.Atom.{Atom, substituteAtom}
 use Rattle.model.specs.Expression.{registerCount, expressionAt, atomAt, mostNodes}
 use Rattle.model.specs.declared.Comparison.{Comparison}
-use Rattle.terms.specs.Table.{termAt}
+use Rattle.nodes.specs.Table.{termAt}
 use Rattle.term_reader.specs.Reader.{mapped, ExpressionRead, AtomRead, atomNodes}
 use Rattle.term_reader.specs.declared.Parse.{Parse}
 use Rattle.term_reader.specs.declared.Parse.the-variants.{Term as Found, Missing, Fault}

@@ -9,9 +9,9 @@ use Rattle.model.specs.Term.{Term, constant}
 use Rattle.model.specs.Goals.{termOf}
 use Rattle.model.specs.Expression.{registerCount}
 use Rattle.workspace.specs.Layout.{assumptionBase, tableBase, mostAssumptions, Same}
-use Rattle.terms.specs.Table.{place, termAt}
+use Rattle.nodes.specs.Table.{place, termAt}
 use Rattle.workspace.proofs.Frames.{same-refl, same-trans, same-within}
-use Rattle.terms.proofs.Table.{term-same, formed-same}
+use Rattle.nodes.proofs.Table.{term-same, formed-same}
 use Rattle.assumptions.specs.Area.{slot, Listed}
 use Rattle.assumptions.proofs.Laws.{held-same, listed-same}
 use Rattle.rule_reader.specs.Opening.{registerNodes}

@@ -11,7 +11,7 @@ use Rattle.model.specs.Term.{Term, constant, variable, sum, difference, mask, s
 use Rattle.model.specs.Linear.{variableBound}
 use Rattle.model.specs.Expression.{registerCount}
 use Rattle.workspace.specs.Layout.{tableBase, Same}
-use Rattle.terms.specs.Table.{place, termAt, Formed, Space, Put}
+use Rattle.nodes.specs.Table.{place, termAt, Formed, Space, Put}
 use Rattle.term_reader.specs.Reader.{RegisterTerms, Ready}
 use Rattle.workspace.proofs.Frames.{same-refl, same-trans, same-within}
 use Rattle.derivation.proofs.ApplyLaws.{prepared-grown}

@@ -9,7 +9,7 @@ use Rattle.model.specs.Package.{mostInstructions}
 use Rattle.model.specs.Goals.{Path as ModelPath}
 use Rattle.model_laws.specs.Bounded.{ClaimBounded}
 use Rattle.workspace.specs.Layout.{tableBase, Same}
-use Rattle.terms.specs.Table.{termAt, place}
+use Rattle.nodes.specs.Table.{termAt, place}
 use Rattle.assumptions.specs.Area.{slot, listed}
 use Rattle.claims.specs.declared.Claim.{Claim}
 use Rattle.claims.specs.declared.Scope.{Scope}

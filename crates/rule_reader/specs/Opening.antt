@@ -12,7 +12,7 @@ use Rattle.model.specs.Derivation.{ruleAt}
 use Rattle.model.specs.declared.Refusal.{Refusal}
 use Rattle.model.specs.declared.Refusal.the-variants.{ProofExhausted, BadArgument}
 use Rattle.workspace.specs.Layout.{mostVariables, Same}
-use Rattle.terms.specs.Table.{place, Formed, Space}
+use Rattle.nodes.specs.Table.{place, Formed, Space}
 use Rattle.term_reader.specs.Reader.{RegisterTerms}
 use Rattle.term_reader.specs.declared.Parse.{Parse}
 use Rattle.term_reader.specs.declared.Parse.the-variants.{Term as Found, Missing, Fault}

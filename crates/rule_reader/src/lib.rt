@@ -8,7 +8,7 @@ ghost use mathlib.Core.List.{List};
 ghost use Prim.Native.Nat.{ℕ};
 ghost use lib.ListN.{getElem?};
 ghost use Rattle.model.specs.Rule.{rules};
-ghost use Rattle.terms.specs.Table.{Formed};
+ghost use Rattle.nodes.specs.Table.{Formed};
 ghost use Rattle.rule_reader.specs.Opening.{formOf, refusalOf, Begun, Opening, Opens};
 
 // What stands after a rule byte.

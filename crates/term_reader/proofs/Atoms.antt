@@ -14,7 +14,7 @@ use Rattle.model.specs.Expression.{nodesAt, expressionAt, atomAt, mostNodes}
 use Rattle.model.specs.declared.Comparison.{Comparison}
 use Rattle.fields.specs.Kind.{kindOf}
 use Rattle.workspace.specs.Layout.{tableBase, Same}
-use Rattle.terms.specs.Table.{place, termAt, Formed}
+use Rattle.nodes.specs.Table.{place, termAt, Formed}
 use Rattle.term_reader.specs.Reader.{mapped, expressionOver, atomOver, variableTerm, nodesAnswer, expressionAnswer, atomAnswer, unreadOf, atomTop, AtomWithin, Ready, Grown, AtomGrown, NodesRead, ExpressionRead, AtomRead, atomNodes}
 use Rattle.term_reader.specs.declared.Parse.{Parse}
 use Rattle.term_reader.specs.declared.Parse.the-variants.{Term as Found, Missing, Fault}
@@ -22,7 +22,7 @@ use Rattle.term_reader.specs.declared.AtomParse.{AtomParse}
 use Rattle.term_reader.specs.declared.AtomParse.the-variants.{Atom as FoundAtom, Missing as MissingAtom, Fault as FaultAtom}
 use Rattle.term_reader.proofs.Parse.{enum}
 use Rattle.workspace.proofs.Frames.{same-refl, same-within}
-use Rattle.terms.proofs.Table.{term-same, formed-less}
+use Rattle.nodes.proofs.Table.{term-same, formed-less}
 use Rattle.term_reader.proofs.Reading.{withoutLeft, without-over, twoSides, rightSide, sides-over, atom-missing, atom-unknown, atom-sides}
 use Rattle.term_reader.proofs.Building.{Refused, no-term, kept-before, variable-same, ready-after}
 

@@ -15,13 +15,13 @@ use Rattle.model.specs.Result.{value, _>>=_}
 use Rattle.model.specs.Term.{Term, constant, variable, shift}
 use Rattle.model.specs.Expression.{Form, four-byte-constant, two-byte-variable, two-expressions, count-and-expression, forms, mostCount, Nodes, nodesAt, registerCount}
 use Rattle.workspace.specs.Layout.{mostVariables, tableBase, Same}
-use Rattle.terms.specs.Table.{operationOf, place, termAt, Formed, Space, Put}
+use Rattle.nodes.specs.Table.{operationOf, place, termAt, Formed, Space, Put}
 use Rattle.term_reader.specs.Reader.{mapped, nodesOver, variableTerm, nodesAnswer, topAfter, leftAfter, Within, Ready, Grown, NodeRead, NodesRead}
 use Rattle.term_reader.specs.declared.Parse.{Parse}
 use Rattle.term_reader.specs.declared.Parse.the-variants.{Term as Found, Missing, Fault}
 use Rattle.term_reader.proofs.Parse.{enum}
 use Rattle.workspace.proofs.Frames.{same-refl, same-trans, same-within}
-use Rattle.terms.proofs.Table.{term-same, formed-less}
+use Rattle.nodes.proofs.Table.{term-same, formed-less}
 use Rattle.term_reader.proofs.Reading.{form-pair, form-unknown, constant-missing, constant-found, variable-missing, variable-fault, variable-found, shift-missing, shift-fault, nodes-missing, nodes-spent, nodes-unknown, nodes-form, applied, pairOf, operation-keeps, shift-over, pair-over, node-pair, node-shift}
 
 -- ---- the term of a variable

@@ -13,7 +13,7 @@ use Rattle.model.specs.Atom.{Atom}
 use Rattle.model.specs.Field.{ReadError, missing, fault, byteAt, halfAt, wordAt}
 use Rattle.model.specs.Expression.{Form, four-byte-constant, two-byte-variable, two-expressions, count-and-expression, forms, mostCount, comparisons, Nodes, nodeOf, nodesAt, expressionAt, atomAt}
 use Rattle.model.specs.declared.Comparison.{Comparison}
-use Rattle.terms.specs.Table.{operationOf}
+use Rattle.nodes.specs.Table.{operationOf}
 use Rattle.fields.specs.Kind.{kindOf}
 use Rattle.term_reader.specs.Reader.{over, mapped, nodesOver, expressionOver, atomOver}
 

@@ -15,10 +15,10 @@ use Rattle.model.specs.Field.{ReadError, fault, byteAt, halfAt, wordAt}
 use Rattle.model.specs.Expression.{two-expressions, forms, mostCount, comparisons, Nodes, nodeOf, nodesAt, expressionAt, atomAt, registerCount, mostNodes}
 use Rattle.model.specs.Goals.{registerVariables}
 use Rattle.workspace.specs.Layout.{tableBase, Same}
-use Rattle.terms.specs.Table.{operationOf, place}
+use Rattle.nodes.specs.Table.{operationOf, place}
 use Rattle.term_reader.specs.Reader.{over, mapped, nodesOver, expressionOver, atomOver, variableTerm, RegisterTerms}
 use Rattle.workspace.proofs.Frames.{same-within}
-use Rattle.terms.proofs.Table.{term-same}
+use Rattle.nodes.proofs.Table.{term-same}
 use Rattle.term_reader.proofs.Reading.{applied, pairOf, operation-keeps, shift-over, pair-over, withoutLeft, without-over, twoSides, sides-over}
 use Rattle.term_reader.proofs.Building.{variable-register, variable-new}
 

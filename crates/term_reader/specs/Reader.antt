@@ -11,7 +11,7 @@ use Rattle.model.specs.Atom.{Atom}
 use Rattle.model.specs.Field.{ReadError, missing, fault}
 use Rattle.model.specs.Expression.{Form, Nodes, nodeOf, nodesAt, expressionAt, atomAt, mostNodes, registerCount}
 use Rattle.workspace.specs.Layout.{Same}
-use Rattle.terms.specs.Table.{place, termAt, Formed, Space}
+use Rattle.nodes.specs.Table.{place, termAt, Formed, Space}
 use Rattle.term_reader.specs.declared.Parse.{Parse}
 use Rattle.term_reader.specs.declared.Parse.the-variants.{Term as Found, Missing, Fault}
 use Rattle.term_reader.specs.declared.AtomParse.{AtomParse}

@@ -10,9 +10,9 @@ use lib.Dec.{eqb}
 use Rattle.model.specs.Word.{shiftW}
 use Rattle.model.specs.Term.{Term, eval, closed, eqTerm}
 use Rattle.model.proofs.Terms.{same-term, term-same as same-refl-term, and-left}
-use Rattle.terms.specs.Table.{low, high, partsAt, valueAt, marksAt, valuedAt, nodeOfTag, viewOf, build, termAt, plain, pairValue, factsOf, Shaped, Formed}
-use Rattle.terms.proofs.Table.{at-pair, at-shift, pair-built, shift-tag, marks-here, built-here, first-part, second-part, same-terms}
-use Rattle.terms.proofs.Facts.{valued-at, value-is-kept, pair-eval}
+use Rattle.nodes.specs.Table.{low, high, partsAt, valueAt, marksAt, valuedAt, nodeOfTag, viewOf, build, termAt, plain, pairValue, factsOf, Shaped, Formed}
+use Rattle.nodes.proofs.Table.{at-pair, at-shift, pair-built, shift-tag, marks-here, built-here, first-part, second-part, same-terms}
+use Rattle.nodes.proofs.Facts.{valued-at, value-is-kept, pair-eval}
 use Rattle.term_walks.specs.Closed.{closedValue, leafNumber}
 use Rattle.term_walks.specs.declared.Closed.the-variants.{Value, Open}
 

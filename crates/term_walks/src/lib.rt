@@ -4,7 +4,7 @@ ghost use mathlib.Core.Path.{_≡_};
 ghost use Prim.Native.Nat.{suc, _≤_};
 ghost use lib.ListN.{length};
 ghost use Rattle.model.specs.Term.{eval, eqTerm};
-ghost use Rattle.terms.specs.Table.{partsAt, valueAt, termAt, place, Shaped, Formed};
+ghost use Rattle.nodes.specs.Table.{partsAt, valueAt, termAt, place, Shaped, Formed};
 ghost use Rattle.term_walks.specs.Closed.{closedValue, leafNumber};
 
 // The value of a term without variables.
@@ -19,9 +19,9 @@ fn number(ws: &[u32], i: usize, tag: u32) -> u32
     ensures { λ r. ⌜ r ≡ leafNumber tag (partsAt (now (ws .entry)) i) (valueAt (now (ws .entry)) i) ⌝ }
 {
     if tag == 0 {
-        return terms::value(ws, i);
+        return nodes::value(ws, i);
     }
-    terms::parts(ws, i)
+    nodes::parts(ws, i)
 }
 
 // Whether nodes i and j have the same term, node by node: at once where the same node stands for both, or where their facts differ. What
@@ -31,21 +31,21 @@ pub fn equal(ws: &[u32], i: usize, j: usize) -> bool
     requires { ⌜ Shaped (now ws) (suc j) ⌝ }
     ensures { λ r. ⌜ r ≡ eqTerm (termAt (now (ws .entry)) i) (termAt (now (ws .entry)) j) ⌝ }
 {
-    if terms::twins(ws, i, j) {
+    if nodes::twins(ws, i, j) {
         return true;
     }
-    if !terms::alike(ws, i, j) {
+    if !nodes::alike(ws, i, j) {
         return false;
     }
-    let tag = terms::tag(ws, i);
+    let tag = nodes::tag(ws, i);
     if tag < 2 {
         return number(ws, i, tag) == number(ws, j, tag);
     }
-    if !equal(ws, terms::first(ws, i), terms::first(ws, j)) {
+    if !equal(ws, nodes::first(ws, i), nodes::first(ws, j)) {
         return false;
     }
-    let a = terms::second(ws, i);
-    let b = terms::second(ws, j);
+    let a = nodes::second(ws, i);
+    let b = nodes::second(ws, j);
     if 4 < tag {
         return a == b;
     }
@@ -58,7 +58,7 @@ pub fn same(ws: &[u32], i: usize, j: usize) -> bool
     requires { ⌜ Formed (now ws) (suc j) ⌝ }
     ensures { λ r. ⌜ r ≡ eqTerm (termAt (now (ws .entry)) i) (termAt (now (ws .entry)) j) ⌝ }
 {
-    if terms::twins(ws, i, j) {
+    if nodes::twins(ws, i, j) {
         return true;
     }
     equal(ws, i, j)
@@ -69,15 +69,15 @@ fn reduced(ws: &[u32], i: usize) -> u32
     requires { ⌜ Formed (now ws) (suc i) ⌝ }
     ensures { λ r. ⌜ r ≡ eval (λ v. 0) (termAt (now (ws .entry)) i) ⌝ }
 {
-    if terms::holds_value(ws, i) {
-        return terms::value(ws, i);
+    if nodes::holds_value(ws, i) {
+        return nodes::value(ws, i);
     }
-    let kind = terms::tag(ws, i);
+    let kind = nodes::tag(ws, i);
     if kind < 2 {
         return 0;
     }
-    let a = reduced(ws, terms::first(ws, i));
-    let other = terms::second(ws, i);
+    let a = reduced(ws, nodes::first(ws, i));
+    let other = nodes::second(ws, i);
     if 4 < kind {
         return fields::shift(a, other as u32);
     }
@@ -89,10 +89,10 @@ pub fn evaluate(ws: &[u32], i: usize) -> Closed
     requires { ⌜ Formed (now ws) (suc i) ⌝ }
     ensures { λ r. ⌜ r ≡ closedValue (termAt (now (ws .entry)) i) ⌝ }
 {
-    if terms::holds_value(ws, i) {
-        return Closed::Value(terms::value(ws, i));
+    if nodes::holds_value(ws, i) {
+        return Closed::Value(nodes::value(ws, i));
     }
-    if terms::closed(ws, i) {
+    if nodes::closed(ws, i) {
         Closed::Value(reduced(ws, i))
     } else {
         Closed::Open

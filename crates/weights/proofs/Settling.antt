@@ -16,9 +16,9 @@ use Rattle.model.proofs.Terms.{same-term, term-same, and-left, and-right}
 use Rattle.model.proofs.Words.{_≈_, same-word}
 use Rattle.workspace.specs.Layout.{Same, areaWords, hintBase, mostTableNodes}
 use Rattle.workspace.proofs.Frames.{same-refl, same-trans, set-before}
-use Rattle.terms.specs.Table.{place, valueAt, valuedAt, termAt, plain, Formed, Shaped}
-use Rattle.terms.proofs.Table.{formed-less, marks-here}
-use Rattle.terms.proofs.Facts.{no-value-zero, valued-at}
+use Rattle.nodes.specs.Table.{place, valueAt, valuedAt, termAt, plain, Formed, Shaped}
+use Rattle.nodes.proofs.Table.{formed-less, marks-here}
+use Rattle.nodes.proofs.Facts.{no-value-zero, valued-at}
 use Rattle.forms.specs.Entries.{opaque, Entry, ofTerm, numberAt, Unlike}
 use Rattle.weights.specs.Weights.{total, weighsAt, Loaded, Partner, Settleable, Unsettled, Settled, Spread, Reckoned}
 use Rattle.forms.proofs.Forms.{clash, opaque-coefficient, plain-coefficient, coefficient-word}

@@ -17,12 +17,12 @@ use Rattle.model.specs.Linear.{variableBound}
 use Rattle.model.proofs.Words.{_≈_, mul-cong, add-cong, add-plain, sub-plain, add-below}
 use Rattle.model.proofs.Terms.{and-left, and-right}
 use Rattle.workspace.specs.Layout.{tableBase, constantWord, areaWords, hintBase}
-use Rattle.terms.specs.Table.{place, partsAt, valueAt, marksAt, valuedAt, nodeOfTag, viewOf, build, termAt, plain, InOrder, Shaped, Formed}
-use Rattle.terms.specs.declared.Node.{Node}
-use Rattle.terms.specs.declared.Node.the-variants.{Constant, Variable, Sum, Difference, Mask, Shift}
-use Rattle.terms.proofs.Node.{enum as node-enum}
-use Rattle.terms.proofs.Table.{formed-less, node-order, node-built, marks-here, built-here, term-viewed, shaped-viewed}
-use Rattle.terms.proofs.Facts.{valued-at, value-is-kept, no-value-zero}
+use Rattle.nodes.specs.Table.{place, partsAt, valueAt, marksAt, valuedAt, nodeOfTag, viewOf, build, termAt, plain, InOrder, Shaped, Formed}
+use Rattle.nodes.specs.declared.Node.{Node}
+use Rattle.nodes.specs.declared.Node.the-variants.{Constant, Variable, Sum, Difference, Mask, Shift}
+use Rattle.nodes.proofs.Node.{enum as node-enum}
+use Rattle.nodes.proofs.Table.{formed-less, node-order, node-built, marks-here, built-here, term-viewed, shaped-viewed}
+use Rattle.nodes.proofs.Facts.{valued-at, value-is-kept, no-value-zero}
 use Rattle.forms.specs.Area.{formAt, Comparable}
 use Rattle.forms.specs.Entries.{opaque, Entry, inWord, ofTerm, Valid, numberAt}
 use Rattle.weights.specs.Weights.{areaAt, givenTo, total, Allowed, Loaded, Weighed, Weighable, Passed, Spread}

@@ -11,7 +11,7 @@ use Rattle.model.specs.Word.{addW, subW}
 use Rattle.model.specs.Term.{Term, eqTerm}
 use Rattle.model.specs.Linear.{coefficientOf, variableBound}
 use Rattle.workspace.specs.Layout.{Same, constantWord, areaWords, hintBase}
-use Rattle.terms.specs.Table.{place, valueAt, valuedAt, termAt, plain, Formed}
+use Rattle.nodes.specs.Table.{place, valueAt, valuedAt, termAt, plain, Formed}
 use Rattle.forms.specs.Area.{formAt}
 use Rattle.forms.specs.Entries.{opaque, Entry, inWord, ofTerm, Valid, numberAt, Unlike}
 

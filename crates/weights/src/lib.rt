@@ -1,14 +1,14 @@
 // Linear forms by the table: each node is visited once, from the last on. Where a node holds no value, that word, which is zero between uses,
 // holds its weight, the number of times that the form of its term is to be added. A masked or shifted term stands for itself: its weight
 // stays, and nodes with the same term are brought together at the end.
-use terms::Node;
+use nodes::Node;
 use workspace::CONSTANT;
 use workspace::NOTES;
 ghost use mathlib.Core.Path.{_≡_};
 ghost use Prim.Native.Nat.{suc, _*_, _%_, _^_, _≤_, _<_, max};
 ghost use lib.ListN.{length};
 ghost use Rattle.workspace.specs.Layout.{constantWord, hintBase, Same};
-ghost use Rattle.terms.specs.Table.{place, valuedAt, termAt, Shaped};
+ghost use Rattle.nodes.specs.Table.{place, valuedAt, termAt, Shaped};
 ghost use Rattle.forms.specs.Area.{Comparable};
 ghost use Rattle.weights.specs.Weights.{givenTo, weighsAt, Weighable, Passed, Partner, Settleable, Settled, Spread};
 
@@ -34,11 +34,11 @@ fn give(ws: &mut [u32], k: usize, w: u32)
     requires { ⌜ place (suc k) ≤ length (now ws) ⌝ }
     ensures { λ _. ⌜ now (ws .exit) ≡ givenTo (valuedAt (now (ws .entry)) k) (now (ws .entry)) k w ⌝ }
 {
-    let value = terms::value(ws, k);
-    if terms::holds_value(ws, k) {
+    let value = nodes::value(ws, k);
+    if nodes::holds_value(ws, k) {
         forms::change(ws, CONSTANT, product(w, value), false);
     } else {
-        terms::set_value(ws, k, fields::add(value, w));
+        nodes::set_value(ws, k, fields::add(value, w));
     }
 }
 
@@ -47,25 +47,25 @@ fn pass(ws: &mut [u32], k: usize)
     requires { ⌜ Weighable (now ws) (suc k) ⌝ }
     ensures { λ _. ⌜ Passed (now (ws .entry)) (now (ws .exit)) (suc k) k ⌝ }
 {
-    let w = terms::value(ws, k);
+    let w = nodes::value(ws, k);
     if w == 0 {
         return;
     }
-    if terms::holds_value(ws, k) {
+    if nodes::holds_value(ws, k) {
         return;
     }
-    match terms::node_at(ws, k) {
+    match nodes::node_at(ws, k) {
         Node::Variable(v) => {
-            terms::set_value(ws, k, 0);
+            nodes::set_value(ws, k, 0);
             forms::change(ws, fields::wide(v), w, false);
         }
         Node::Sum(l, r) => {
-            terms::set_value(ws, k, 0);
+            nodes::set_value(ws, k, 0);
             give(ws, l, w);
             give(ws, r, w);
         }
         Node::Difference(l, r) => {
-            terms::set_value(ws, k, 0);
+            nodes::set_value(ws, k, 0);
             give(ws, l, w);
             give(ws, r, fields::sub(0, w));
         }
@@ -104,7 +104,7 @@ fn weighs(ws: &[u32], k: usize) -> bool
     requires { ⌜ place (suc k) ≤ length (now ws) ⌝ }
     ensures { λ r. ⌜ r ≡ weighsAt (now (ws .entry)) k ⌝ }
 {
-    (terms::value(ws, k) != 0) & !terms::holds_value(ws, k)
+    (nodes::value(ws, k) != 0) & !nodes::holds_value(ws, k)
 }
 
 // What is noted of node k: a node that may have the same term.
@@ -179,13 +179,13 @@ fn hand_over(ws: &mut [u32], last: usize) -> bool
     if !weighs(ws, last) {
         return true;
     }
-    let w = terms::value(ws, last);
+    let w = nodes::value(ws, last);
     let j = partner(ws, last);
-    terms::set_value(ws, last, 0);
+    nodes::set_value(ws, last, 0);
     if j == last {
         return false;
     }
-    terms::set_value(ws, j, fields::add(terms::value(ws, j), w));
+    nodes::set_value(ws, j, fields::add(nodes::value(ws, j), w));
     true
 }
 

@@ -5,7 +5,7 @@ use Rattle.model_laws.proofs.Steps.{failed}
 use Rattle.claims.proofs.PlanLaws.{formed-at, no-more-parts, no-parts, no-sides, operands-told, put-asks-parts, sides-told}
 use Rattle.arithmetic_rules.proofs.ArithmeticLaws.{no-overflow-fits}
 use Rattle.model.specs.Rule.{premises}
-use Rattle.terms.proofs.Table.{part}
+use Rattle.nodes.proofs.Table.{part}
 use Rattle.arithmetic_rules.proofs.no_overflow.Statement.{statement}
 use Rattle.arithmetic_rules.proofs.no_overflow.Tie as tie
 

@@ -3,7 +3,7 @@ use Rattle.model_laws.proofs.Steps.{failed}
 use Rattle.claims.proofs.PlanLaws.{formed-at, no-more-parts, no-parts, no-sides, operands-told, sides-told}
 use Rattle.arithmetic_rules.proofs.ArithmeticLaws.{successor-fits}
 use Rattle.model.specs.Rule.{premises}
-use Rattle.terms.proofs.Table.{part}
+use Rattle.nodes.proofs.Table.{part}
 use Rattle.arithmetic_rules.proofs.successor.Statement.{statement}
 use Rattle.arithmetic_rules.proofs.successor.Tie as tie
 

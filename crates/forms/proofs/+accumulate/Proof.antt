@@ -9,7 +9,7 @@ use Rattle.forms.proofs.accumulate.Kinds as kinds
 use Rattle.forms.proofs.+accumulate.Lts-accumulate as lts
 use Rattle.fields.proofs.wide.Reads as wide-reads
 use Rattle.forms.proofs.change.Reads as change-reads
-use Rattle.terms.proofs.view.Reads as view-reads
+use Rattle.nodes.proofs.view.Reads as view-reads
 use Rattle.forms.proofs.+accumulate.{statement}
 use Rattle.forms.proofs.+accumulate.Tie.{close}
 

@@ -1,7 +1,7 @@
 use mathlib.Core.Path.{sym, _∙_}
 use native.Mathlib.Omega.{arith}
-use Rattle.terms.proofs.Table.{part, first-part, second-part}
-use Rattle.terms.proofs.Facts.{value-is-kept}
+use Rattle.nodes.proofs.Table.{part, first-part, second-part}
+use Rattle.nodes.proofs.Facts.{value-is-kept}
 use Rattle.term_walks.proofs.Walks.{reduced-leaf, reduced-pair, reduced-shift}
 use borrow.Author.Needs.{needs}
 use Prim.Native.Nat.{ℕ, _<_}
@@ -12,11 +12,11 @@ use Rattle.term_walks.proofs.reduced.Kinds as kinds
 use Rattle.term_walks.proofs.+reduced.Lts-reduced as lts
 use Rattle.fields.proofs.shift.Reads as shift-reads
 use Rattle.terms.proofs.applied.Reads as applied-reads
-use Rattle.terms.proofs.first.Reads as first-reads
-use Rattle.terms.proofs.holds_value.Reads as holds-value-reads
-use Rattle.terms.proofs.second.Reads as second-reads
-use Rattle.terms.proofs.tag.Reads as tag-reads
-use Rattle.terms.proofs.value.Reads as value-reads
+use Rattle.nodes.proofs.first.Reads as first-reads
+use Rattle.nodes.proofs.holds_value.Reads as holds-value-reads
+use Rattle.nodes.proofs.second.Reads as second-reads
+use Rattle.nodes.proofs.tag.Reads as tag-reads
+use Rattle.nodes.proofs.value.Reads as value-reads
 use Rattle.term_walks.proofs.+reduced.{statement}
 use Rattle.term_walks.proofs.+reduced.Tie.{close}
 

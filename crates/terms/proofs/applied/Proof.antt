@@ -1,4 +1,4 @@
-use Rattle.terms.proofs.Facts.{mask-value}
+use Rattle.terms.proofs.NewNodes.{mask-value}
 use borrow.Author.Needs.{needs}
 use Rattle.terms.proofs.applied.Statement.{statement}
 use Rattle.terms.proofs.applied.Tie as tie

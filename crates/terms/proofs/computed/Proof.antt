@@ -1,4 +1,4 @@
-use Rattle.terms.proofs.Facts.{both-hold, computed-pair, computed-none}
+use Rattle.terms.proofs.NewNodes.{both-hold, computed-pair, computed-none}
 use borrow.Author.Needs.{needs}
 use Rattle.terms.proofs.computed.Statement.{statement}
 use Rattle.terms.proofs.computed.Tie as tie

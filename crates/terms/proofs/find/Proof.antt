@@ -1,6 +1,6 @@
 use mathlib.Core.Path.{sym, refl, _∙_}
-use Rattle.terms.proofs.Facts.{find-hinted, find-new}
-use Rattle.terms.proofs.Table.{formed-less}
+use Rattle.terms.proofs.NewNodes.{find-hinted, find-new}
+use Rattle.nodes.proofs.Table.{formed-less}
 use native.Mathlib.Omega.{arith}
 use borrow.Author.Needs.{needs}
 use Rattle.terms.proofs.find.Statement.{statement}

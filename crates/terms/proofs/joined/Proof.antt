@@ -1,4 +1,4 @@
-use Rattle.terms.proofs.Facts.{bits-product}
+use Rattle.nodes.proofs.Facts.{bits-product}
 use native.Mathlib.Omega.{arith}
 use borrow.Author.Needs.{needs}
 use Rattle.terms.proofs.joined.Statement.{statement}

@@ -1,4 +1,4 @@
-use Rattle.terms.proofs.Table.{put-node, found-in}
+use Rattle.nodes.proofs.Table.{put-node, found-in}
 use native.Mathlib.Omega.{arith}
 use borrow.Author.Needs.{needs}
 use Rattle.terms.proofs.put.Statement.{statement}

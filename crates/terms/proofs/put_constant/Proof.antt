@@ -1,4 +1,4 @@
-use Rattle.terms.proofs.Facts.{fits-constant}
+use Rattle.terms.proofs.NewNodes.{fits-constant}
 use native.Mathlib.Omega.{arith}
 use borrow.Author.Needs.{needs}
 use Rattle.terms.proofs.put_constant.Statement.{statement}

@@ -1,5 +1,6 @@
-use Rattle.terms.proofs.Table.{formed-less}
-use Rattle.terms.proofs.Facts.{bits-product, both-plain, mask-bit, mask-no-value, fits-pair, put-as-pair}
+use Rattle.nodes.proofs.Table.{formed-less}
+use Rattle.nodes.proofs.Facts.{bits-product}
+use Rattle.terms.proofs.NewNodes.{both-plain, mask-bit, mask-no-value, fits-pair, put-as-pair}
 use native.Mathlib.Omega.{arith}
 use borrow.Author.Needs.{needs}
 use Rattle.terms.proofs.put_pair.Statement.{statement}

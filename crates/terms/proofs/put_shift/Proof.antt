@@ -1,5 +1,5 @@
 use native.Mathlib.Omega.{arith}
-use Rattle.terms.proofs.Facts.{fits-shift, put-as-shift}
+use Rattle.terms.proofs.NewNodes.{fits-shift, put-as-shift}
 use borrow.Author.Needs.{needs}
 use Rattle.terms.proofs.put_shift.Statement.{statement}
 use Rattle.terms.proofs.put_shift.Tie as tie

@@ -1,4 +1,4 @@
-use Rattle.terms.proofs.Facts.{fits-variable}
+use Rattle.terms.proofs.NewNodes.{fits-variable}
 use native.Mathlib.Omega.{arith}
 use borrow.Author.Needs.{needs}
 use Rattle.terms.proofs.put_variable.Statement.{statement}

@@ -1,5 +1,5 @@
 use native.Mathlib.Omega.{arith}
-use Rattle.terms.proofs.Table.{shaped-less}
+use Rattle.nodes.proofs.Table.{shaped-less}
 use Rattle.weights.proofs.Settling.{partner-noted, partner-kept}
 use borrow.Author.Needs.{needs}
 use Rattle.weights.proofs.partner.Statement.{statement}

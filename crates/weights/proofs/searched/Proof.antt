@@ -1,5 +1,5 @@
 use native.Mathlib.Omega.{arith}
-use Rattle.terms.proofs.Table.{shaped-less}
+use Rattle.nodes.proofs.Table.{shaped-less}
 use Rattle.weights.proofs.Settling.{Searched, searched-start, searched-weightless, searched-other, partner-found, partner-none}
 use borrow.Author.Needs.{needs}
 use Rattle.weights.proofs.searched.Statement.{statement}

@@ -1,10 +1,10 @@
 use mathlib.Core.Path.{sym}
 use native.Mathlib.Omega.{arith}
-use Rattle.terms.specs.Table.{viewOf}
-use Rattle.terms.proofs.Table.{shift-tag, other-tag}
+use Rattle.nodes.specs.Table.{viewOf}
+use Rattle.nodes.proofs.Table.{shift-tag, other-tag}
 use borrow.Author.Needs.{needs}
-use Rattle.terms.proofs.node_at.Statement.{statement}
-use Rattle.terms.proofs.node_at.Tie as tie
+use Rattle.nodes.proofs.node_at.Statement.{statement}
+use Rattle.nodes.proofs.node_at.Tie as tie
 
 returns : tie.Need-returns
 unfolding viewOf

@@ -11,8 +11,8 @@ use Rattle.model.specs.Word.{addW, subW, maskW}
 use Rattle.model.specs.Verdict.{leastWorkspace}
 use Rattle.model.specs.Goals.{mostTermNodes}
 use Rattle.workspace.specs.Layout.{mostVariables, tableBase, mostTableNodes, hintBase, Same}
-use Rattle.terms.specs.declared.Node.{Node}
-use Rattle.terms.specs.declared.Node.the-variants.{Constant, Variable, Sum, Difference, Mask, Shift}
+use Rattle.nodes.specs.declared.Node.{Node}
+use Rattle.nodes.specs.declared.Node.the-variants.{Constant, Variable, Sum, Difference, Mask, Shift}
 
 -- the lower and the upper half of a word
 abbrev pub low : ℕ → ℕ

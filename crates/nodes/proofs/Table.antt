@@ -11,9 +11,9 @@ use lib.Seq.{getD-at}
 use Rattle.model.specs.Term.{Term, constant, sum, difference, mask, shift}
 use Rattle.model.specs.Verdict.{leastWorkspace}
 use Rattle.workspace.specs.Layout.{tableBase, mostTableNodes, Same, stored}
-use Rattle.terms.specs.Table.{low, high, place, partsAt, valueAt, marksAt, nodeOfTag, viewOf, build, operationOf, termsBelow, termAt, termOf, valueOf, InOrder, Marked, Shaped, Formed, Put, Space, Fits, Twinned}
-use Rattle.terms.specs.declared.Node.{Node}
-use Rattle.terms.specs.declared.Node.the-variants.{Constant, Variable, Sum, Difference, Mask, Shift}
+use Rattle.nodes.specs.Table.{low, high, place, partsAt, valueAt, marksAt, nodeOfTag, viewOf, build, operationOf, termsBelow, termAt, termOf, valueOf, InOrder, Marked, Shaped, Formed, Put, Space, Fits, Twinned}
+use Rattle.nodes.specs.declared.Node.{Node}
+use Rattle.nodes.specs.declared.Node.the-variants.{Constant, Variable, Sum, Difference, Mask, Shift}
 use Rattle.workspace.proofs.Frames.{same-trans, same-within, stored-length, stored-before, stored-first, stored-second, stored-third}
 
 -- ---- one node

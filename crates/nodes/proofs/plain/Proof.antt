@@ -1,8 +1,8 @@
-use Rattle.terms.proofs.Table.{marks-here}
-use Rattle.terms.proofs.Facts.{plain-at}
+use Rattle.nodes.proofs.Table.{marks-here}
+use Rattle.nodes.proofs.Facts.{plain-at}
 use borrow.Author.Needs.{needs}
-use Rattle.terms.proofs.plain.Statement.{statement}
-use Rattle.terms.proofs.plain.Tie as tie
+use Rattle.nodes.proofs.plain.Statement.{statement}
+use Rattle.nodes.proofs.plain.Tie as tie
 
 returns : tie.Need-returns
 returns c = rw (c .is-plain .ensures .0, c .before .marks .ensures) (plain-at (marks-here (c .before .before .before .pre .shaped)))

@@ -1,8 +1,8 @@
-use Rattle.terms.proofs.Table.{marks-here}
-use Rattle.terms.proofs.Facts.{size-most}
+use Rattle.nodes.proofs.Table.{marks-here}
+use Rattle.nodes.proofs.Facts.{size-most}
 use borrow.Author.Needs.{needs}
-use Rattle.terms.proofs.at_most.Statement.{statement}
-use Rattle.terms.proofs.at_most.Tie as tie
+use Rattle.nodes.proofs.at_most.Statement.{statement}
+use Rattle.nodes.proofs.at_most.Tie as tie
 
 returns : tie.Need-returns
 returns c = rw (c .size .ensures .0, c .before .marks .ensures) (size-most _ _ (marks-here (c .before .before .before .pre .0 .shaped) .facts) _ (c .before .before .before .pre .1))

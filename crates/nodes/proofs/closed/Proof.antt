@@ -1,8 +1,8 @@
-use Rattle.terms.proofs.Table.{marks-here}
-use Rattle.terms.proofs.Facts.{closed-at}
+use Rattle.nodes.proofs.Table.{marks-here}
+use Rattle.nodes.proofs.Facts.{closed-at}
 use borrow.Author.Needs.{needs}
-use Rattle.terms.proofs.closed.Statement.{statement}
-use Rattle.terms.proofs.closed.Tie as tie
+use Rattle.nodes.proofs.closed.Statement.{statement}
+use Rattle.nodes.proofs.closed.Tie as tie
 
 returns : tie.Need-returns
 returns c = rw (c .is-closed .ensures .0, c .before .marks .ensures) (closed-at (marks-here (c .before .before .before .pre .shaped)))

@@ -1,6 +1,6 @@
 use borrow.Author.Needs.{needs}
-use Rattle.terms.proofs.holds_value.Statement.{statement}
-use Rattle.terms.proofs.holds_value.Tie as tie
+use Rattle.nodes.proofs.holds_value.Statement.{statement}
+use Rattle.nodes.proofs.holds_value.Tie as tie
 
 returns : tie.Need-returns
 returns c = rw (c .marks .ensures)

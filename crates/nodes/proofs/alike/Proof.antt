@@ -1,6 +1,6 @@
 use borrow.Author.Needs.{needs}
-use Rattle.terms.proofs.alike.Statement.{statement}
-use Rattle.terms.proofs.alike.Tie as tie
+use Rattle.nodes.proofs.alike.Statement.{statement}
+use Rattle.nodes.proofs.alike.Tie as tie
 
 returns : tie.Need-returns
 returns c = rw (c .before .before .low .ensures .0, c .low2 .ensures .0, c .before .before .before .marks .ensures, c .before .marks2 .ensures)

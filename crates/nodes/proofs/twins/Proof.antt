@@ -1,6 +1,6 @@
 use borrow.Author.Needs.{needs}
-use Rattle.terms.proofs.twins.Statement.{statement}
-use Rattle.terms.proofs.twins.Tie as tie
+use Rattle.nodes.proofs.twins.Statement.{statement}
+use Rattle.nodes.proofs.twins.Tie as tie
 
 returns : tie.Need-returns
 returns c = rw (c .before .before .high .ensures .0, c .high2 .ensures .0, c .before .before .before .marks .ensures, c .before .marks2 .ensures)
