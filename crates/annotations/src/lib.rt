@@ -1,4 +1,2 @@
-// The annotations of a package, the search among them, and the jumps' targets.
+// The annotations of a package.
 pub mod reading;
-pub mod search;
-pub mod targets;

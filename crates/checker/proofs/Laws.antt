@@ -33,11 +33,11 @@ use Rattle.header.proofs.Headers.{passed, stopped}
 use Rattle.routine.proofs.Facts.{checked-code}
 use Rattle.annotations.specs.declared.reading.AnnotationsAnswer.{AnnotationsAnswer}
 use Rattle.annotations.specs.declared.reading.AnnotationsAnswer.the-variants as sections
-use Rattle.annotations.specs.declared.targets.TargetsAnswer.{TargetsAnswer}
-use Rattle.annotations.specs.declared.targets.TargetsAnswer.the-variants as targets
 use Rattle.annotations.specs.Annotations.{annotationsAt, AnnotationsMet}
-use Rattle.annotations.specs.Targets.{targetsResult, TargetsMet}
 use Rattle.annotations.proofs.Facts.{annotations-passed, annotations-refused}
+use Rattle.targets.specs.declared.TargetsAnswer.{TargetsAnswer}
+use Rattle.targets.specs.declared.TargetsAnswer.the-variants as targets
+use Rattle.targets.specs.Targets.{targetsResult, TargetsMet}
 use Rattle.jumps.specs.Setting.{Settled, Stands}
 use Rattle.checker.specs.Checks.{routineVerdict, routineFrom, AnnotationsChecked}
 

@@ -1,6 +1,5 @@
 // The checker: checks 1 to 12, and then the routine's evaluation.
 use annotations::reading::AnnotationsAnswer;
-use annotations::targets::TargetsAnswer;
 use header::HeaderAnswer;
 use jumps::Setting;
 use limits::LEAST_WORKSPACE;
@@ -11,6 +10,7 @@ use model::Verdict;
 use policy::Policy;
 use policy::PolicyAnswer;
 use routine::instructions::CodeAnswer;
+use targets::TargetsAnswer;
 use workspace::AREA_WORDS;
 ghost use mathlib.Core.Path.{_≡_};
 ghost use Prim.Native.Nat.{_≤_};
@@ -50,7 +50,7 @@ fn check_annotations(
     if let AnnotationsAnswer::Refused(refusal) = read {
         return refusals::refusing(refusal, 0);
     }
-    let targets = annotations::targets::check_targets(bytes, header, &indexes);
+    let targets = targets::check_targets(bytes, header, &indexes);
     if let TargetsAnswer::Refused(refusal) = targets {
         return refusals::refusing(refusal, 0);
     }

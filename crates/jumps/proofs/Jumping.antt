@@ -27,9 +27,9 @@ use Rattle.nodes.proofs.Table.{term-same}
 use Rattle.assumptions.specs.Area.{slot, atomIn}
 use Rattle.assumptions.specs.declared.Assumption.{Assumption}
 use Rattle.annotations.specs.Annotations.{annotationAtPlace}
-use Rattle.annotations.specs.Search.{positionFrom}
-use Rattle.annotations.specs.declared.search.Found.{Found}
-use Rattle.annotations.specs.declared.search.Found.the-variants.{At as Found-at, Nothing}
+use Rattle.targets.specs.Search.{positionFrom}
+use Rattle.targets.specs.declared.search.Found.{Found}
+use Rattle.targets.specs.declared.search.Found.the-variants.{At as Found-at, Nothing}
 use Rattle.claims.specs.Regions.{regionsOf, RegionWords}
 use Rattle.goals.specs.Judging.{Reached, ReachedAfter, Judges}
 use Rattle.paths.specs.Walking.{pathOf, NodeIn, PathIn, steppedTo, Kept}

@@ -25,10 +25,10 @@ use Rattle.routine.proofs.Facts.{code-length, code-at}
 use Rattle.model.proofs.Results.{bound, past-check, past-stop}
 use Rattle.model.specs.Atom.{mostAtoms}
 use Rattle.annotations.specs.Annotations.{annotationAtPlace, annotationsAt, indexesOf, Placed, Tabled}
-use Rattle.annotations.specs.Search.{positionFrom}
-use Rattle.annotations.specs.declared.search.Found.{Found}
-use Rattle.annotations.specs.declared.search.Found.the-variants.{At, Nothing}
-use Rattle.annotations.proofs.Searches.{found-annotation, no-annotation}
+use Rattle.targets.specs.Search.{positionFrom}
+use Rattle.targets.specs.declared.search.Found.{Found}
+use Rattle.targets.specs.declared.search.Found.the-variants.{At, Nothing}
+use Rattle.targets.proofs.Searches.{found-annotation, no-annotation}
 use Rattle.policy.specs.Policy.{policyOf}
 use Rattle.jumps.specs.declared.Setting.{Setting}
 use Rattle.jumps.specs.Setting.{Settled, Stands}

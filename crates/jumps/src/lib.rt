@@ -1,8 +1,6 @@
 // What a jump, a branch or a return does to a path of a block, and arrivals at annotations.
 pub mod regions;
 
-use annotations::search;
-use annotations::search::Found;
 use assumptions::Assumption;
 use goals;
 use goals::Judged;
@@ -14,6 +12,8 @@ use moves::Moved;
 use moves::MovedAnswer;
 use paths::Path;
 use policy::Policy;
+use targets::search;
+use targets::search::Found;
 ghost use mathlib.Core.Path.{_≡_};
 ghost use Prim.Native.Nat.{ℕ, _≤_, _<_};
 ghost use lib.ListN.{length};

@@ -1,7 +1,7 @@
-use Rattle.annotations.proofs.Jumps.{target-listed, target-unlisted, no-refusal}
+use Rattle.targets.proofs.Jumps.{target-listed, target-unlisted, no-refusal}
 use borrow.Author.Needs.{needs}
-use Rattle.annotations.proofs.targets.check_target.Statement.{statement}
-use Rattle.annotations.proofs.targets.check_target.Tie as tie
+use Rattle.targets.proofs.check_target.Statement.{statement}
+use Rattle.targets.proofs.check_target.Tie as tie
 
 returns : tie.Need-returns
 returns c = target-listed _ _ _ _ (c .before .before .before .before .before .before .before .before .pre .1 .1) _ (c .before .before .before .before .before .instruction .ensures) _ (c .before .before .before .answer .given .1) _ (c .before .target-listed .ensures) (c .if1 .taken)

@@ -2,7 +2,7 @@
 ghost use mathlib.Core.Path.{_≡_};
 ghost use Prim.Native.Nat.{_≤_};
 ghost use lib.ListN.{length, take};
-ghost use Rattle.annotations.specs.Search.{positionFrom};
+ghost use Rattle.targets.specs.Search.{positionFrom};
 
 pub enum Found {
     At(usize),

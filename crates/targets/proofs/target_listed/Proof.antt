@@ -1,7 +1,7 @@
-use Rattle.annotations.proofs.Jumps.{no-jump, jump-listed, jump-unlisted}
+use Rattle.targets.proofs.Jumps.{no-jump, jump-listed, jump-unlisted}
 use borrow.Author.Needs.{needs}
-use Rattle.annotations.proofs.targets.target_listed.Statement.{statement}
-use Rattle.annotations.proofs.targets.target_listed.Tie as tie
+use Rattle.targets.proofs.target_listed.Statement.{statement}
+use Rattle.targets.proofs.target_listed.Tie as tie
 
 returns : tie.Need-returns
 returns c = no-jump _ _ _ (c .before .before .target-of .ensures) (c .enum-told .given .1)

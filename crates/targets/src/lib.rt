@@ -1,16 +1,17 @@
-// The jumps' targets: check 12.
-use crate::search;
-use crate::search::Found;
+// The jumps' targets: check 12; and the search for the annotation at an index.
+pub mod search;
+
 use model::Header;
 use model::Instruction;
 use model::Refusal;
 use routine::instructions;
 use routine::instructions::InstructionAnswer;
 use routine::instructions::Target;
+use search::Found;
 ghost use Prim.Native.Nat.{_≤_, _<_};
 ghost use lib.ListN.{length, take};
 ghost use Rattle.header.specs.Headers.{Fits};
-ghost use Rattle.annotations.specs.Targets.{TargetListed, TargetMet, TargetsMet};
+ghost use Rattle.targets.specs.Targets.{TargetListed, TargetMet, TargetsMet};
 
 pub enum TargetsAnswer {
     Passed,

@@ -10,10 +10,10 @@ use lib.ListN.{getD, length, take, drop, drop-of-length-le}
 use lib.Seq.{drop-cons, getD-take, length-take-le}
 use borrow.Author.Tests.{eq-eqb, ne-eqb}
 use Rattle.model.specs.Annotation.{Annotation, annotationAt}
-use Rattle.annotations.specs.declared.search.Found.{Found}
-use Rattle.annotations.specs.declared.search.Found.the-variants.{At, Nothing}
 use Rattle.annotations.specs.Annotations.{indexesOf}
-use Rattle.annotations.specs.Search.{positionFrom}
+use Rattle.targets.specs.declared.search.Found.{Found}
+use Rattle.targets.specs.declared.search.Found.the-variants.{At, Nothing}
+use Rattle.targets.specs.Search.{positionFrom}
 
 -- i places of the first `count` are passed, and the search from there gives the same
 pub record Searching (l : List ℕ) (count x i : ℕ) : Type 0 where

@@ -1,8 +1,8 @@
 use Prim.Native.Nat.{_-_}
-use Rattle.annotations.proofs.Jumps.{Targeting, targets-start, targets-more, targets-refused, targets-done}
+use Rattle.targets.proofs.Jumps.{Targeting, targets-start, targets-more, targets-refused, targets-done}
 use borrow.Author.Needs.{needs}
-use Rattle.annotations.proofs.targets.check_targets.Statement.{statement}
-use Rattle.annotations.proofs.targets.check_targets.Tie as tie
+use Rattle.targets.proofs.check_targets.Statement.{statement}
+use Rattle.targets.proofs.check_targets.Tie as tie
 
 abbrev Inv-loop : tie.InvT-loop
 Inv-loop bytes header indexes index₀ index = Targeting bytes header indexes index

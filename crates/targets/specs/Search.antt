@@ -3,8 +3,8 @@ use Prim.Native.Nat.{ℕ, _+_}
 use mathlib.Core.Bool.{true, false}
 use mathlib.Core.List.{List, [], _∷_}
 use lib.Dec.{eqb}
-use Rattle.annotations.specs.declared.search.Found.{Found}
-use Rattle.annotations.specs.declared.search.Found.the-variants.{At, Nothing}
+use Rattle.targets.specs.declared.search.Found.{Found}
+use Rattle.targets.specs.declared.search.Found.the-variants.{At, Nothing}
 
 -- the first place at which x stands, places being counted from i
 unfoldable pub positionFrom : List ℕ → (x i : ℕ) → Found

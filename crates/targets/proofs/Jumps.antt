@@ -24,14 +24,14 @@ use Rattle.routine.specs.declared.instructions.InstructionAnswer.{InstructionAn
 use Rattle.routine.specs.declared.instructions.InstructionAnswer.the-variants as instruction
 use Rattle.routine.specs.Code.{targetOption, instructionResult, InstructionRead}
 use Rattle.routine.proofs.Facts.{code-at, code-length}
-use Rattle.annotations.specs.declared.search.Found.{Found}
-use Rattle.annotations.specs.declared.search.Found.the-variants as found
-use Rattle.annotations.specs.declared.targets.TargetsAnswer.{TargetsAnswer}
-use Rattle.annotations.specs.declared.targets.TargetsAnswer.the-variants.{Passed, Refused}
 use Rattle.annotations.specs.Annotations.{indexesOf}
-use Rattle.annotations.specs.Search.{positionFrom}
-use Rattle.annotations.specs.Targets.{targetsResult, TargetListed, TargetMet, TargetsMet}
-use Rattle.annotations.proofs.Searches.{found-annotation, no-annotation}
+use Rattle.targets.specs.declared.search.Found.{Found}
+use Rattle.targets.specs.declared.search.Found.the-variants as found
+use Rattle.targets.specs.declared.TargetsAnswer.{TargetsAnswer}
+use Rattle.targets.specs.declared.TargetsAnswer.the-variants.{Passed, Refused}
+use Rattle.targets.specs.Search.{positionFrom}
+use Rattle.targets.specs.Targets.{targetsResult, TargetListed, TargetMet, TargetsMet}
+use Rattle.targets.proofs.Searches.{found-annotation, no-annotation}
 
 -- ---- one instruction's target
 module _ (listed : List ℕ) (x : Instruction) (r : Target) (e : targetOption r ≡ targetOf x) where

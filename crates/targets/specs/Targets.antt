@@ -13,9 +13,9 @@ use Rattle.model.specs.declared.Instruction.{Instruction}
 use Rattle.model.specs.declared.Instruction.the-variants.{Return}
 use Rattle.model.specs.declared.Refusal.{Refusal}
 use Rattle.model.specs.declared.Refusal.the-variants.{Unannotated}
-use Rattle.annotations.specs.declared.targets.TargetsAnswer.{TargetsAnswer}
-use Rattle.annotations.specs.declared.targets.TargetsAnswer.the-variants.{Passed, Refused}
 use Rattle.annotations.specs.Annotations.{indexesOf}
+use Rattle.targets.specs.declared.TargetsAnswer.{TargetsAnswer}
+use Rattle.targets.specs.declared.TargetsAnswer.the-variants.{Passed, Refused}
 
 -- the answer as a result of the definitions
 unfoldable pub targetsResult : TargetsAnswer → Result Refusal (Unit {0})

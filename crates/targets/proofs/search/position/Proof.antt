@@ -1,8 +1,8 @@
 use Prim.Native.Nat.{_-_}
-use Rattle.annotations.proofs.Searches.{Searching, start, more, found, nothing}
+use Rattle.targets.proofs.Searches.{Searching, start, more, found, nothing}
 use borrow.Author.Needs.{needs}
-use Rattle.annotations.proofs.search.position.Statement.{statement}
-use Rattle.annotations.proofs.search.position.Tie as tie
+use Rattle.targets.proofs.search.position.Statement.{statement}
+use Rattle.targets.proofs.search.position.Tie as tie
 
 abbrev Inv-loop : tie.InvT-loop
 Inv-loop indexes count index at₀ at = Searching indexes count index at
