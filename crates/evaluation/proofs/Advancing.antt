@@ -14,7 +14,7 @@ use Rattle.model.specs.declared.Comparison.the-variants.{Equal, Less}
 use Rattle.model.specs.declared.Instruction.{Instruction}
 use Rattle.model.specs.declared.Instruction.the-variants.{Load, Store, Jump, JumpLess, JumpEqual, Return}
 use Rattle.model.specs.Package.{mostInstructions}
-use Rattle.routine.specs.Code.{Formed}
+use Rattle.decoding.specs.Decoding.{Formed}
 use Rattle.claims.specs.Regions.{regionsOf}
 use Rattle.goals.specs.Judging.{Reached}
 use Rattle.paths.specs.Walking.{pathOf, PathIn}

@@ -19,7 +19,7 @@ use Rattle.model.specs.Package.{mostInstructions}
 use Rattle.workspace.specs.Layout.{assumptionBase, Same}
 use Rattle.nodes.specs.Table.{termAt}
 use Rattle.workspace.proofs.Frames.{same-refl, same-trans, same-within}
-use Rattle.routine.specs.Code.{Formed, instructionResult, FormedIfPassed, InstructionRead}
+use Rattle.routine.specs.Code.{instructionResult, FormedIfPassed, InstructionRead}
 use Rattle.routine.specs.declared.instructions.InstructionAnswer.{InstructionAnswer}
 use Rattle.routine.specs.declared.instructions.InstructionAnswer.the-variants as read
 use Rattle.routine.proofs.Facts.{code-at}

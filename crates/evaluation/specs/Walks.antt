@@ -13,7 +13,7 @@ use Rattle.model.specs.declared.Header.{Header}
 use Rattle.model.specs.declared.Instruction.{Instruction}
 use Rattle.model.specs.declared.Instruction.the-variants.{Return}
 use Rattle.workspace.specs.Layout.{assumptionBase, Same}
-use Rattle.routine.specs.Code.{Formed}
+use Rattle.decoding.specs.Decoding.{Formed}
 use Rattle.goals.specs.Judging.{ReachedAfter, JudgesTrace}
 use Rattle.paths.specs.Walking.{pathOf}
 use Rattle.paths.specs.declared.Path.{Path}

@@ -21,7 +21,7 @@ ghost use mathlib.Core.Path.{_≡_};
 ghost use Prim.Native.Nat.{_+_, _<_};
 ghost use Rattle.nodes.specs.Table.{termAt};
 ghost use Rattle.header.specs.Headers.{Fits};
-ghost use Rattle.routine.specs.Code.{Formed};
+ghost use Rattle.decoding.specs.Decoding.{Formed};
 ghost use Rattle.goals.specs.Judging.{Reached};
 ghost use Rattle.paths.specs.Walking.{NodeIn};
 ghost use Rattle.jumps.specs.Setting.{Fixed};

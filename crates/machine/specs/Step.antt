@@ -10,7 +10,7 @@ use Rattle.model.specs.Package.{mostInstructions}
 use Rattle.model.specs.Machine.{State, Step, next, returns, without-right, execute}
 use Rattle.model.specs.declared.Region.{Region}
 use Rattle.model.specs.declared.Instruction.{Instruction}
-use Rattle.routine.specs.Code.{Formed}
+use Rattle.decoding.specs.Decoding.{Formed}
 use Rattle.machine.specs.declared.Progress.{Progress}
 use Rattle.machine.specs.declared.Progress.the-variants.{Next, Returned, WithoutRight}
 

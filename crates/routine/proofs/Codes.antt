@@ -1,67 +1,32 @@
 -- The laws of the readers of instructions, one for each way out. Assumes nothing.
 use mathlib.Core.Path.{_≡_, refl, sym, ap, subst, _∙_}
 use mathlib.Core.Bool.{true, false}
-use mathlib.Core.Option.{none}
 use mathlib.Core.List.{List, [], _∷_, _++_, append-assoc, append-nil}
 use native.Mathlib.Omega.{arith}
 use Prim.Native.Nat.{ℕ, suc, _+_, _-_, _*_, _^_, _≤_, _<_}
 use lib.ListN.{length, getD, take, set, replicate, length-set, length-replicate, getD-replicate}
 use native.Mathlib.Decide.{ℕ-discrete}
-use types.Run.{OneOf, miss}
-use denote.Enum.Declared.{tagOf}
 use lib.Seq.{getD-set-same, getD-set-other}
-use lib.Dec.{ltb}
 use Rattle.model.specs.Result.{Result, stop, value, _>>=_, check, stopAs}
 use Rattle.model.specs.Word.{le32}
-use Rattle.model.specs.Instruction.{decode, targetOf, targetInside}
+use Rattle.model.specs.Instruction.{decode, targetInside}
 use Rattle.model.specs.Package.{mostInstructions, immediateStart, instructionsFrom, readCode}
 use Rattle.model.specs.declared.Header.{Header}
 use Rattle.model.specs.declared.Instruction.{Instruction}
-use Rattle.model.specs.declared.Instruction.the-variants.{Set, Add, AddImmediate, Subtract, Load, Store, Jump, JumpLess, JumpEqual, Return, Mask, Shift}
-use Rattle.model.proofs.Instruction.{the-type}
+use Rattle.model.specs.declared.Instruction.the-variants.{Return}
 use Rattle.model.specs.declared.Refusal.{Refusal}
 use Rattle.model.specs.declared.Refusal.the-variants.{BadInstruction, BadTarget}
-use Rattle.routine.specs.declared.instructions.Decoded.{Decoded}
-use Rattle.routine.specs.declared.instructions.Decoded.the-variants.{Good, Bad}
-use Rattle.routine.specs.declared.instructions.Target.{Target}
-use Rattle.routine.specs.declared.instructions.Target.the-variants.{At, Nowhere}
+use Rattle.decoding.specs.declared.Decoded.{Decoded}
+use Rattle.decoding.specs.declared.Decoded.the-variants.{Good, Bad}
+use Rattle.decoding.specs.Decoding.{decodedOf, Formed}
 use Rattle.routine.specs.declared.instructions.InstructionAnswer.{InstructionAnswer}
 use Rattle.routine.specs.declared.instructions.InstructionAnswer.the-variants.{Passed, Refused}
 use Rattle.routine.specs.declared.instructions.CodeAnswer.the-variants as answers
 use Rattle.routine.specs.declared.instructions.Line.{Line}
-use Rattle.routine.specs.Code.{decodedOf, targetOption, instructionResult, instructionAt, Formed, FormedIfPassed, InstructionRead, codeChecked, instructionsOf, codeOfLines, AllFormed, CodeMet}
+use Rattle.routine.specs.Code.{instructionResult, instructionAt, FormedIfPassed, InstructionRead, codeChecked, instructionsOf, codeOfLines, AllFormed, CodeMet}
 use Rattle.routine.proofs.Lists.{map-stored}
 use Rattle.model.proofs.Results.{then-then, then-same}
-use Rattle.routine.proofs.Decoding.{decoded, undecoded, formed}
-
--- the instructions that the code names none of
-abbrev others : List ℕ
-others = 0 ∷ 1 ∷ 2 ∷ 3 ∷ 4 ∷ 5 ∷ 9 ∷ 10 ∷ 11 ∷ []
-
-pub no-target : (x : Instruction) → OneOf others (tagOf the-type x) → none ≡ targetOf x
-unfolding targetOf
-no-target (Set d i) t = refl
-no-target (Add d a b) t = refl
-no-target (AddImmediate d a i) t = refl
-no-target (Subtract d a b) t = refl
-no-target (Load d a i) t = refl
-no-target (Store d a i) t = refl
-no-target (Jump i) t = absurd (miss others 6 tt t)
-no-target (JumpLess a b i) t = absurd (miss others 7 tt t)
-no-target (JumpEqual a b i) t = absurd (miss others 8 tt t)
-no-target Return t = refl
-no-target (Mask d a i) t = refl
-no-target (Shift d a i) t = refl
-
--- a jump whose target is i, and an instruction that does not jump
-module _ (n : ℕ) (x : Instruction) (r : Target) (e : targetOption r ≡ targetOf x) where
-  pub goes : (i w : ℕ) → r ≡ At i → w ≡ i → ltb w n ≡ targetInside n x
-  unfolding targetOption targetInside
-  goes i w a ew = rw (← e, a, ew, targetInside)
-
-  pub stays : r ≡ Nowhere → true ≡ targetInside n x
-  unfolding targetOption targetInside
-  stays a = rw (← e, a, targetInside)
+use Rattle.decoding.proofs.Decoding.{decoded, undecoded, formed}
 
 -- ---- one instruction: the immediate i and the decoding r that the code has
 module _ (bytes : List ℕ) (h : Header) (index i : ℕ) (ei : i ≡ le32 bytes (immediateStart h + 4 * index)) (r : Decoded) (er : r ≡ decodedOf (decode (getD bytes (12 + 4 * index) 0) (getD bytes (12 + 4 * index + 1) 0) (getD bytes (12 + 4 * index + 2) 0) (getD bytes (12 + 4 * index + 3) 0) i)) where

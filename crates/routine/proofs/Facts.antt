@@ -12,10 +12,11 @@ use Rattle.model.specs.declared.Header.{Header}
 use Rattle.model.specs.declared.Instruction.{Instruction}
 use Rattle.model.specs.declared.Refusal.{Refusal}
 use Rattle.model.specs.declared.Refusal.the-variants.{BadInstruction, BadTarget}
+use Rattle.decoding.specs.Decoding.{Formed}
 use Rattle.routine.specs.declared.instructions.CodeAnswer.the-variants as answers
-use Rattle.routine.specs.Code.{instructionAt, Formed, codeChecked}
+use Rattle.routine.specs.Code.{instructionAt, codeChecked}
 use Rattle.model.proofs.Results.{bound, past-check, past-stop}
-use Rattle.routine.proofs.Decoding.{formed}
+use Rattle.decoding.proofs.Decoding.{formed}
 use Rattle.routine.proofs.Codes.{step}
 
 -- a code that was checked is there

@@ -1,4 +1,3 @@
 pub mod Lists
-pub mod Decoding
 pub mod Codes
 pub mod Facts

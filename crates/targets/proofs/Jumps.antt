@@ -18,11 +18,12 @@ use Rattle.model.specs.declared.Instruction.{Instruction}
 use Rattle.model.specs.declared.Instruction.the-variants.{Return}
 use Rattle.model.specs.declared.Refusal.{Refusal}
 use Rattle.model.specs.declared.Refusal.the-variants.{Unannotated}
-use Rattle.routine.specs.declared.instructions.Target.{Target}
-use Rattle.routine.specs.declared.instructions.Target.the-variants as target
+use Rattle.decoding.specs.declared.Target.{Target}
+use Rattle.decoding.specs.declared.Target.the-variants as target
+use Rattle.decoding.specs.Decoding.{targetOption}
 use Rattle.routine.specs.declared.instructions.InstructionAnswer.{InstructionAnswer}
 use Rattle.routine.specs.declared.instructions.InstructionAnswer.the-variants as instruction
-use Rattle.routine.specs.Code.{targetOption, instructionResult, InstructionRead}
+use Rattle.routine.specs.Code.{instructionResult, InstructionRead}
 use Rattle.routine.proofs.Facts.{code-at, code-length}
 use Rattle.annotations.specs.Annotations.{indexesOf}
 use Rattle.targets.specs.declared.search.Found.{Found}

@@ -1,12 +1,12 @@
 // The jumps' targets: check 12; and the search for the annotation at an index.
 pub mod search;
 
+use decoding::Target;
 use model::Header;
 use model::Instruction;
 use model::Refusal;
 use routine::instructions;
 use routine::instructions::InstructionAnswer;
-use routine::instructions::Target;
 use search::Found;
 ghost use Prim.Native.Nat.{_≤_, _<_};
 ghost use lib.ListN.{length, take};
@@ -23,7 +23,7 @@ fn target_listed(indexes: &[u32], count: usize, instruction: Instruction) -> boo
     requires { ⌜ count ≤ length (now indexes) ⌝ }
     ensures { λ r. ⌜ TargetListed (take count (now (indexes .entry))) instruction r ⌝ }
 {
-    let target = instructions::target_of(instruction);
+    let target = decoding::target_of(instruction);
     let Target::At(i) = target else {
         return true;
     };

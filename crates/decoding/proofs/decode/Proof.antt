@@ -1,8 +1,8 @@
 use mathlib.Core.Path.{refl}
 use mathlib.Core.Logic.{⊎-elim}
-use Rattle.routine.proofs.Decoding.{passes, fails, other, the-next, one-of-two}
-use Rattle.routine.proofs.instructions.decode.Statement.{statement}
-use Rattle.routine.proofs.instructions.decode.Tie as tie
+use Rattle.decoding.proofs.Decoding.{passes, fails, other, the-next, one-of-two}
+use Rattle.decoding.proofs.decode.Statement.{statement}
+use Rattle.decoding.proofs.decode.Tie as tie
 
 returns : tie.Need-returns
 returns c = passes 0 _ _ _ _ _ _ _ _ refl refl (c .before .match .keys1) (c .if1 .taken)

@@ -1,10 +1,10 @@
 use mathlib.Core.Path.{ap, sym}
 use Rattle.model.specs.Instruction.{targetOf}
-use Rattle.routine.specs.Code.{targetOption}
-use Rattle.routine.proofs.Codes.{no-target}
+use Rattle.decoding.specs.Decoding.{targetOption}
+use Rattle.decoding.proofs.Targets.{no-target}
 use borrow.Author.Needs.{needs}
-use Rattle.routine.proofs.instructions.target_of.Statement.{statement}
-use Rattle.routine.proofs.instructions.target_of.Tie as tie
+use Rattle.decoding.proofs.target_of.Statement.{statement}
+use Rattle.decoding.proofs.target_of.Tie as tie
 
 returns : tie.Need-returns
 unfolding targetOption targetOf

@@ -1,7 +1,7 @@
 use mathlib.Core.Path.{refl}
-use Rattle.routine.proofs.Decoding.{passes, fails, default}
-use Rattle.routine.proofs.instructions.decode_bitwise.Statement.{statement}
-use Rattle.routine.proofs.instructions.decode_bitwise.Tie as tie
+use Rattle.decoding.proofs.Decoding.{passes, fails, default}
+use Rattle.decoding.proofs.decode_bitwise.Statement.{statement}
+use Rattle.decoding.proofs.decode_bitwise.Tie as tie
 
 returns : tie.Need-returns
 returns c = passes 10 _ _ _ _ _ _ _ _ refl refl (c .before .match .keys1) (c .if1 .taken)

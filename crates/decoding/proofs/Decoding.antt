@@ -1,4 +1,4 @@
--- The laws of decoding: a row of the table whose test passes or fails, and an operation without a row. Assumes nothing.
+-- The laws of decoding: a row of the table whose test passes or fails, an operation without a row, and what is decoded is formed. Assumes nothing.
 use mathlib.Core.Path.{_≡_, refl, subst}
 use mathlib.Core.Logic.{_⊎_, inl, inr}
 use mathlib.Core.Bool.{Bool, true, false, _&&_, and-eq-true-iff}
@@ -15,8 +15,8 @@ use Rattle.model.specs.Expression.{registerCount, mostCount}
 use Rattle.model.specs.Instruction.{provided, operations, decode, targetOf, targetInside}
 use Rattle.model.specs.declared.Instruction.{Instruction}
 use Rattle.model.specs.declared.Instruction.the-variants.{Set, Add, AddImmediate, Subtract, Load, Store, Jump, JumpLess, JumpEqual, Return, Mask, Shift}
-use Rattle.routine.specs.declared.instructions.Decoded.the-variants.{Good, Bad}
-use Rattle.routine.specs.Code.{decodedOf, Formed}
+use Rattle.decoding.specs.declared.Decoded.the-variants.{Good, Bad}
+use Rattle.decoding.specs.Decoding.{decodedOf, Formed}
 
 -- operation k's row is f, whose fields give test x and instruction I
 module _ (k op d a b i : ℕ) (f : ℕ → ℕ → ℕ → ℕ → Fit Instruction) (x : Bool) (I : Instruction) (row : getElem? operations k ≡ some f) (at-row : f d a b i ≡ provided x I) (e : op ≡ k) where

@@ -1,7 +1,7 @@
-use Rattle.routine.proofs.Codes.{goes, stays}
+use Rattle.decoding.proofs.Targets.{goes, stays}
 use borrow.Author.Needs.{needs}
-use Rattle.routine.proofs.instructions.target_inside.Statement.{statement}
-use Rattle.routine.proofs.instructions.target_inside.Tie as tie
+use Rattle.decoding.proofs.target_inside.Statement.{statement}
+use Rattle.decoding.proofs.target_inside.Tie as tie
 
 returns : tie.Need-returns
 returns c = goes _ _ _ (c .before .before .before .before .target-of .ensures) _ _ (c .before .before .target .given .1) (c .wide .ensures)
