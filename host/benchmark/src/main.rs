@@ -3,8 +3,8 @@
 //! `benchmark [PART]` measures the inputs whose name contains PART, all without it. The two are
 //! called in turn; a row has the medians, the spread (half the distance of the quartiles, as a part
 //! of the median) and the ratio of the medians, proved / reference. Times are the processor's for
-//! this thread, so that other programs disturb them little. Rows of checks also have the bytes of
-//! stack that the proved call takes. Nothing is asserted of them.
+//! this thread, so that other programs disturb them little. Rows of checks and runs also have the
+//! bytes of stack that the proved call takes. Nothing is asserted of them.
 
 use std::hint::black_box;
 use std::time::Duration;
@@ -39,7 +39,7 @@ fn main() {
         measure_find(input);
     }
     println!();
-    println!("{:<52} {:>13} {:>7} {heading}", "runs, a step", "steps", "answer");
+    println!("{:<52} {:>13} {:>7} {heading}   stack", "runs, a step", "steps", "answer");
     for input in runs().iter().filter(|input| input.name.contains(&part)) {
         measure_run(input);
     }
@@ -258,6 +258,17 @@ fn measure_run(input: &Run) {
     let agree = (outcome.number, outcome.place, outcome.steps)
         == (proved.number, proved.place, proved.steps)
         && (&registers, &memory) == (&other_registers, &other_memory);
+    let mut proved = || {
+        let mut registers = input.registers;
+        black_box(loader::run(
+            &input.policy,
+            &input.package,
+            &mut registers,
+            &mut other_memory,
+            u32::MAX,
+        ));
+    };
+    let stack = stack::stack_of(&mut proved);
     let times = measure(
         || {
             let mut registers = input.registers;
@@ -269,19 +280,10 @@ fn measure_run(input: &Run) {
                 u32::MAX,
             ));
         },
-        || {
-            let mut registers = input.registers;
-            black_box(loader::run(
-                &input.policy,
-                &input.package,
-                &mut registers,
-                &mut other_memory,
-                u32::MAX,
-            ));
-        },
+        proved,
     );
     println!(
-        "{:<52} {:>13} {:>7} {}{}",
+        "{:<52} {:>13} {:>7} {} {stack:>7}{}",
         input.name,
         outcome.steps,
         outcome.number,
