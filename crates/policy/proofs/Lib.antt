@@ -1,4 +1,2 @@
-pub mod SizesLaws
-pub mod RegionsLaws
 pub mod ConditionsLaws
 pub mod PolicyLaws

@@ -12,21 +12,22 @@ use Rattle.model.specs.Policy.{sizesOf, regionsFrom, readPolicy}
 use Rattle.model.specs.declared.Sizes.{Sizes}
 use Rattle.model.specs.declared.Refusal.{Refusal}
 use Rattle.model.specs.declared.Refusal.the-variants.{PolicyLength}
-use Rattle.policy.specs.Sizes.{sizesResult}
-use Rattle.policy.specs.Regions.{answered, regionsResult}
+use Rattle.policy_sizes.specs.Sizes.{sizesResult}
+use Rattle.policy_sizes.specs.declared.SizesAnswer.{SizesAnswer}
+use Rattle.policy_sizes.specs.declared.SizesAnswer.the-variants as sizes
+use Rattle.policy_regions.specs.Regions.{regionsAnswered, regionsResult}
+use Rattle.policy_regions.specs.declared.RegionsAnswer.the-variants as regions
+use Rattle.policy_regions.specs.declared.RegionsRead.{RegionsRead}
 use Rattle.policy.specs.Conditions.{conditionsOf, conditionsResult, ConditionsRead}
-use Rattle.policy.specs.Policy.{policyOf, policyResult, PolicyReads}
+use Rattle.policy.specs.Policy.{answered, policyOf, policyResult, PolicyReads}
 use Rattle.policy.specs.declared.PolicyAnswer.the-variants.{Passed, Refused}
 use Rattle.policy.specs.declared.PolicyRead.{PolicyRead}
-use Rattle.policy.specs.declared.RegionsRead.{RegionsRead}
-use Rattle.policy.specs.declared.SizesAnswer.{SizesAnswer}
-use Rattle.policy.specs.declared.SizesAnswer.the-variants as sizes
 use Rattle.policy.specs.declared.ConditionAnswer.{ConditionAnswer}
 use Rattle.policy.specs.declared.ConditionAnswer.the-variants as condition
 use Rattle.model.proofs.Results.{then-then, value-then}
 use Rattle.model.proofs.Gives.{gives-value}
-use Rattle.policy.proofs.SizesLaws.{Sized, sized}
-use Rattle.policy.proofs.RegionsLaws.{all-end, room, ends-at}
+use Rattle.policy_sizes.proofs.SizesLaws.{Sized, sized}
+use Rattle.policy_regions.proofs.RegionsLaws.{all-end, room, ends-at}
 
 -- the definition with both conditions as one
 readBy : List ℕ → Result Refusal model.Policy
@@ -71,13 +72,13 @@ module _ (bytes : List ℕ) (a : SizesAnswer) (d : sizesResult a ≡ sizesOf byt
       unfolding readBy _>>=_ check
       from-here = by-parts bytes ∙ rw (sizes-are, le-leb (12 + 8 * s .regions) (length bytes) there)
 
-      pub no-regions : (x : Refusal) → rr .answer ≡ Refused x → readPolicy bytes ≡ stop x
-      unfolding _>>=_ regionsResult answered
+      pub no-regions : (x : Refusal) → rr .answer ≡ regions.Refused x → readPolicy bytes ≡ stop x
+      unfolding _>>=_ regionsResult regionsAnswered
       no-regions x g = from-here ∙ rw (← f, g)
 
-      module _ (g : rr .answer ≡ Passed) (cr : ConditionAnswer) (k : ConditionsRead bytes s (12 + 8 * s .regions) cr) where
+      module _ (g : rr .answer ≡ regions.Passed) (cr : ConditionAnswer) (k : ConditionsRead bytes s (12 + 8 * s .regions) cr) where
         regions-are : regionsFrom bytes s (s .regions) 0 ≡ value (take (s .regions) (rr .regions))
-        unfolding regionsResult answered
+        unfolding regionsResult regionsAnswered
         regions-are = sym (rw g at f)
 
         pub no-conditions : (x : Refusal) → cr ≡ condition.Refused x → readPolicy bytes ≡ stop x

@@ -6,17 +6,19 @@ use lib.ListN.{length, take, getD}
 use Rattle.model.specs.Result.{Result, stop, value}
 use Rattle.model.specs.Atom.{mostAtoms}
 use Rattle.model.specs.Policy as model
-use Rattle.model.specs.declared.Region.{Region}
 use Rattle.model.specs.declared.Refusal.{Refusal}
+use Rattle.policy.specs.declared.PolicyAnswer.{PolicyAnswer}
 use Rattle.policy.specs.declared.PolicyAnswer.the-variants.{Passed, Refused}
 use Rattle.policy.specs.declared.Policy.{Policy}
 use Rattle.policy.specs.declared.PolicyRead.{PolicyRead}
-use Rattle.policy.specs.Regions.{answered}
 use Rattle.policy.specs.Conditions.{atomsFrom, Stands}
+-- passed on to users of this module: what the code reads past the end of an array of regions
+pub use Rattle.policy_regions.specs.Regions.{noRegion}
 
--- what the code reads past the end of an array of regions
-abbrev pub noRegion : Region
-noRegion = record { base = 0; size = 0; rights = 0 }
+-- what an answer says beside a value
+unfoldable pub answered : {A : Type 0} → PolicyAnswer → A → Result Refusal A
+answered Passed a = value a
+answered (Refused r) a = stop r
 
 module _ (bytes : List ℕ) where
   -- the policy that the struct stands for: the first `count` regions, and the atoms at the two positions

@@ -1,25 +1,17 @@
-// The policy: checks 3 to 6, in reading order.
+// The policy: checks 3 to 6, in reading order. Its conditions are read here, its sizes and its regions by crates of their own.
 use expressions::Reading;
-use limits::MOST_ATOMS;
-use limits::MOST_MEMORY;
 use limits::MOST_REGIONS;
 use limits::REGISTERS;
 use model::Refusal;
 use model::Region;
 use model::Sizes;
+use policy_regions::RegionsAnswer;
+use policy_sizes::SizesAnswer;
 ghost use mathlib.Core.Path.{_≡_};
-ghost use Prim.Native.Nat.{_+_, _*_, _≤_, _<_};
+ghost use Prim.Native.Nat.{_≤_};
 ghost use lib.ListN.{length};
-ghost use Rattle.model.specs.Policy.{mostRegions, sizesOf, regionAt, regionFits, regionsFrom};
-ghost use Rattle.policy.specs.Sizes.{fieldResult, sizesResult, inRange, sizeByte, memoryField};
-ghost use Rattle.policy.specs.Regions.{regionsResult};
 ghost use Rattle.policy.specs.Conditions.{ConditionReads, ConditionsRead};
 ghost use Rattle.policy.specs.Policy.{PolicyReads};
-
-// The largest counts among the sizes.
-const REGION_COUNT: u32 = MOST_REGIONS as u32;
-
-const ATOM_COUNT: u32 = MOST_ATOMS as u32;
 
 // The policy passed, or why it is refused.
 pub enum PolicyAnswer {
@@ -45,143 +37,10 @@ pub struct PolicyRead {
     pub policy: Policy,
 }
 
-// A field of the sizes, or why the policy is refused.
-enum FieldAnswer {
-    Passed(u32),
-    Refused(Refusal),
-}
-
-// The sizes, or why the policy is refused.
-enum SizesAnswer {
-    Passed(Sizes),
-    Refused(Refusal),
-}
-
-// The answer on the regions, and the array that holds them.
-struct RegionsRead {
-    pub answer: PolicyAnswer,
-    pub regions: [Region; MOST_REGIONS],
-}
-
 // A position among the atoms, or why the policy is refused.
 enum ConditionAnswer {
     Passed(usize),
     Refused(Refusal),
-}
-
-// The number of the field at a position, if it is in its range.
-fn in_range(number: u32, at: usize, least: u32, most: u32) -> FieldAnswer
-    ensures { λ r. ⌜ fieldResult r ≡ inRange at least most number ⌝ }
-{
-    if (least <= number) & (number <= most) {
-        return FieldAnswer::Passed(number);
-    }
-    FieldAnswer::Refused(Refusal::PolicySize(at))
-}
-
-// The byte at a position, if it is there and in its range.
-fn size_byte(bytes: &[u8], at: usize, least: u32, most: u32) -> FieldAnswer
-    ensures { λ r. ⌜ fieldResult r ≡ sizeByte (now (bytes .entry)) at least most ⌝ }
-{
-    if bytes.len() <= at {
-        return FieldAnswer::Refused(Refusal::PolicyLength(bytes.len()));
-    }
-    in_range(bytes[at] as u32, at, least, most)
-}
-
-// M, if it is there and in its range.
-fn memory_field(bytes: &[u8]) -> FieldAnswer
-    ensures { λ r. ⌜ fieldResult r ≡ memoryField (now (bytes .entry)) ⌝ }
-{
-    if bytes.len() < 8 {
-        return FieldAnswer::Refused(Refusal::PolicyLength(bytes.len()));
-    }
-    in_range(fields::word(bytes, 4), 4, 1, MOST_MEMORY)
-}
-
-// The sizes, field by field in reading order.
-fn read_sizes(bytes: &[u8]) -> SizesAnswer
-    ensures { λ r. ⌜ sizesResult r ≡ sizesOf (now (bytes .entry)) ⌝ }
-{
-    let regions = match size_byte(bytes, 0, 1, REGION_COUNT) {
-        FieldAnswer::Passed(number) => number,
-        FieldAnswer::Refused(refusal) => return SizesAnswer::Refused(refusal),
-    };
-    let precondition = match size_byte(bytes, 1, 0, ATOM_COUNT) {
-        FieldAnswer::Passed(number) => number,
-        FieldAnswer::Refused(refusal) => return SizesAnswer::Refused(refusal),
-    };
-    let postcondition = match size_byte(bytes, 2, 0, ATOM_COUNT) {
-        FieldAnswer::Passed(number) => number,
-        FieldAnswer::Refused(refusal) => return SizesAnswer::Refused(refusal),
-    };
-    if let FieldAnswer::Refused(refusal) = size_byte(bytes, 3, 0, 0) {
-        return SizesAnswer::Refused(refusal);
-    }
-    let memory = match memory_field(bytes) {
-        FieldAnswer::Passed(number) => number,
-        FieldAnswer::Refused(refusal) => return SizesAnswer::Refused(refusal),
-    };
-    if bytes.len() < 12 {
-        return SizesAnswer::Refused(Refusal::PolicyLength(bytes.len()));
-    }
-    SizesAnswer::Passed(Sizes {
-        regions: fields::wide(regions),
-        precondition: fields::wide(precondition),
-        postcondition: fields::wide(postcondition),
-        memory: memory,
-        limit: fields::word(bytes, 8),
-    })
-}
-
-// Region j of so many.
-fn region(bytes: &[u8], count: usize, j: usize) -> Region
-    requires { ⌜ (count ≤ mostRegions) × ((j < count) × (12 + 8 * count ≤ length (now bytes))) ⌝ }
-    ensures { λ r. ⌜ r ≡ regionAt (now (bytes .entry)) count j ⌝ }
-{
-    let base = fields::word(bytes, 12 + 4 * j);
-    let extent = fields::word(bytes, 12 + 4 * count + 4 * j);
-    Region {
-        base: base,
-        size: extent / 4,
-        rights: extent % 4,
-    }
-}
-
-// The region has a right, a length of 1 or more, and lies below M.
-fn fits(region: Region, memory: u32) -> bool
-    ensures { λ r. ⌜ r ≡ regionFits memory region ⌝ }
-{
-    let end = region.base as u64 + region.size as u64;
-    (1 <= region.rights) & (1 <= region.size) & (end <= memory as u64)
-}
-
-// The regions, one by one.
-fn read_regions(bytes: &[u8], sizes: Sizes) -> RegionsRead
-    requires { ⌜ (sizes .regions ≤ mostRegions) × (12 + 8 * sizes .regions ≤ length (now bytes)) ⌝ }
-    ensures { λ r. ⌜ regionsResult (sizes .regions) r ≡ regionsFrom (now (bytes .entry)) sizes (sizes .regions) 0 ⌝ }
-{
-    let mut regions = [Region {
-        base: 0,
-        size: 0,
-        rights: 0,
-    }; MOST_REGIONS];
-    let mut j = 0;
-    while j < sizes.regions {
-        let next = region(bytes, sizes.regions, j);
-        if !fits(next, sizes.memory) {
-            return RegionsRead {
-                answer: PolicyAnswer::Refused(Refusal::BadRegion(j)),
-                regions: regions,
-            };
-        }
-        regions[j] = next;
-        j += 1;
-    }
-    RegionsRead {
-        answer: PolicyAnswer::Passed,
-        regions: regions,
-    }
 }
 
 // The position after a condition: so many atoms from a position on.
@@ -242,7 +101,7 @@ fn refused(refusal: Refusal) -> PolicyRead
 pub fn read_policy(bytes: &[u8]) -> PolicyRead
     ensures { λ r. ⌜ PolicyReads (now (bytes .entry)) r ⌝ }
 {
-    let sizes = match read_sizes(bytes) {
+    let sizes = match policy_sizes::read_sizes(bytes) {
         SizesAnswer::Passed(sizes) => sizes,
         SizesAnswer::Refused(refusal) => return refused(refusal),
     };
@@ -250,9 +109,9 @@ pub fn read_policy(bytes: &[u8]) -> PolicyRead
     if bytes.len() < start {
         return refused(Refusal::PolicyLength(bytes.len()));
     }
-    let read = read_regions(bytes, sizes);
+    let read = policy_regions::read_regions(bytes, sizes);
     let answer = read.answer;
-    if let PolicyAnswer::Refused(refusal) = answer {
+    if let RegionsAnswer::Refused(refusal) = answer {
         return refused(refusal);
     }
     let postcondition = match read_conditions(bytes, sizes, start) {

@@ -1,8 +1,8 @@
--- `policy::region` meets its contract: both words are those of the definition. Assumes nothing.
+-- `policy_regions::region` meets its contract: both words are those of the definition. Assumes nothing.
 use borrow.Author.Needs.{needs}
 use Rattle.model.specs.Policy.{regionAt}
-use Rattle.policy.proofs.region.Statement.{statement}
-use Rattle.policy.proofs.region.Tie as tie
+use Rattle.policy_regions.proofs.region.Statement.{statement}
+use Rattle.policy_regions.proofs.region.Tie as tie
 
 returns : tie.Need-returns
 unfolding regionAt

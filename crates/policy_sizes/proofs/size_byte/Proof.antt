@@ -1,9 +1,9 @@
--- `policy::size_byte` meets its contract: its two ways out, and a byte fits a word. Assumes nothing.
+-- `policy_sizes::size_byte` meets its contract: its two ways out, and a byte fits a word. Assumes nothing.
 use native.Mathlib.Omega.{arith}
 use borrow.Author.Needs.{needs}
-use Rattle.policy.proofs.SizesLaws as laws
-use Rattle.policy.proofs.size_byte.Statement.{statement}
-use Rattle.policy.proofs.size_byte.Tie as tie
+use Rattle.policy_sizes.proofs.SizesLaws as laws
+use Rattle.policy_sizes.proofs.size_byte.Statement.{statement}
+use Rattle.policy_sizes.proofs.size_byte.Tie as tie
 
 returns : tie.Need-returns
 returns c = laws.no-byte _ _ _ _ (c .if1 .taken)

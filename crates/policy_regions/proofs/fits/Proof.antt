@@ -1,9 +1,9 @@
--- `policy::fits` meets its contract: the tests are those of the definition, over whole numbers. Assumes nothing.
+-- `policy_regions::fits` meets its contract: the tests are those of the definition, over whole numbers. Assumes nothing.
 use mathlib.Core.Path.{refl}
 use borrow.Author.Needs.{needs}
 use Rattle.model.specs.Policy.{regionFits}
-use Rattle.policy.proofs.fits.Statement.{statement}
-use Rattle.policy.proofs.fits.Tie as tie
+use Rattle.policy_regions.proofs.fits.Statement.{statement}
+use Rattle.policy_regions.proofs.fits.Tie as tie
 
 returns : tie.Need-returns
 unfolding regionFits

@@ -10,10 +10,10 @@ use Rattle.model.specs.Policy.{mostMemory, policyField}
 use Rattle.model.specs.declared.Sizes.{Sizes}
 use Rattle.model.specs.declared.Refusal.{Refusal}
 use Rattle.model.specs.declared.Refusal.the-variants.{PolicySize}
-use Rattle.policy.specs.declared.FieldAnswer.{FieldAnswer}
-use Rattle.policy.specs.declared.FieldAnswer.the-variants as field
-use Rattle.policy.specs.declared.SizesAnswer.{SizesAnswer}
-use Rattle.policy.specs.declared.SizesAnswer.the-variants as sizes
+use Rattle.policy_sizes.specs.declared.FieldAnswer.{FieldAnswer}
+use Rattle.policy_sizes.specs.declared.FieldAnswer.the-variants as field
+use Rattle.policy_sizes.specs.declared.SizesAnswer.{SizesAnswer}
+use Rattle.policy_sizes.specs.declared.SizesAnswer.the-variants as sizes
 
 -- what the answer on a field says, and on the sizes
 unfoldable pub fieldResult : FieldAnswer → Result Refusal ℕ

@@ -15,9 +15,8 @@ use Rattle.model.specs.declared.Region.{Region}
 use Rattle.model.specs.declared.Sizes.{Sizes}
 use Rattle.model.specs.declared.Refusal.{Refusal}
 use Rattle.model.specs.declared.Refusal.the-variants.{BadRegion}
-use Rattle.policy.specs.Regions.{answered, regionsResult}
-use Rattle.policy.specs.Policy.{noRegion}
-use Rattle.policy.specs.declared.PolicyAnswer.the-variants.{Passed, Refused}
+use Rattle.policy_regions.specs.Regions.{noRegion, regionsAnswered, regionsResult}
+use Rattle.policy_regions.specs.declared.RegionsAnswer.the-variants.{Passed, Refused}
 use Rattle.model.proofs.Gives.{Gives, gives, gives-then, gives-check}
 use Rattle.model.proofs.Terms.{and-right}
 
@@ -66,11 +65,11 @@ module _ (bytes : List ℕ) (sizes : Sizes) (regions : List Region) (j : ℕ) (g
         }
 
     pub stops : t ≡ false → regionsResult (sizes .regions) (record { answer = Refused (BadRegion j); regions = regions }) ≡ regionsFrom bytes sizes (sizes .regions) 0
-    unfolding regionsFrom _>>=_ check regionsResult answered after
+    unfolding regionsFrom _>>=_ check regionsResult regionsAnswered after
     stops e = sym (g .rest ∙ rw (left, ← is, ← judged, e))
 
   pub ends : sizes .regions ≤ j → regionsResult (sizes .regions) (record { answer = Passed; regions = regions }) ≡ regionsFrom bytes sizes (sizes .regions) 0
-  unfolding regionsFrom regionsResult answered after
+  unfolding regionsFrom regionsResult regionsAnswered after
   ends h = let e : sizes .regions ≡ j = omega arith in let z : sizes .regions - j ≡ 0 = omega arith in sym (g .rest ∙ rw (z, e) (ap value (append-nil (take j regions))))
 
 -- What holds of the regions that are read: there are so many, and each ends within M.

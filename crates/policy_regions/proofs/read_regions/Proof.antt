@@ -1,12 +1,12 @@
--- `policy::read_regions` meets its contract. The loop's invariant: the whole reading is what is in the array so far, and the reading from here. Assumes nothing.
+-- `policy_regions::read_regions` meets its contract. The loop's invariant: the whole reading is what is in the array so far, and the reading from here. Assumes nothing.
 use Prim.Native.Nat.{_-_}
 use mathlib.Core.Path.{refl}
 use borrow.Author.Tests.{not-true, not-false}
 use borrow.Author.Needs.{needs}
-use Rattle.policy.proofs.RegionsLaws.{Going}
-use Rattle.policy.proofs.RegionsLaws as laws
-use Rattle.policy.proofs.read_regions.Statement.{statement}
-use Rattle.policy.proofs.read_regions.Tie as tie
+use Rattle.policy_regions.proofs.RegionsLaws.{Going}
+use Rattle.policy_regions.proofs.RegionsLaws as laws
+use Rattle.policy_regions.proofs.read_regions.Statement.{statement}
+use Rattle.policy_regions.proofs.read_regions.Tie as tie
 
 abbrev Inv-loop : tie.InvT-loop
 Inv-loop bytes sizes regions₀ j₀ regions j = Going bytes sizes regions j

@@ -1,11 +1,11 @@
--- `policy::read_sizes` meets its contract: at each way out, the definition's reading goes on from the fields that passed. Assumes nothing.
+-- `policy_sizes::read_sizes` meets its contract: at each way out, the definition's reading goes on from the fields that passed. Assumes nothing.
 use mathlib.Core.Path.{sym}
 use borrow.Author.Needs.{needs}
-use Rattle.policy.specs.Sizes.{sizesResult}
-use Rattle.policy.proofs.SizesLaws as laws
-use Rattle.policy.proofs.SizesLaws.{sizesBy}
-use Rattle.policy.proofs.read_sizes.Statement.{statement}
-use Rattle.policy.proofs.read_sizes.Tie as tie
+use Rattle.policy_sizes.specs.Sizes.{sizesResult}
+use Rattle.policy_sizes.proofs.SizesLaws as laws
+use Rattle.policy_sizes.proofs.SizesLaws.{sizesBy}
+use Rattle.policy_sizes.proofs.read_sizes.Statement.{statement}
+use Rattle.policy_sizes.proofs.read_sizes.Tie as tie
 
 returns : tie.Need-returns
 unfolding sizesBy

@@ -15,10 +15,10 @@ use Rattle.model.specs.Policy.{mostRegions, mostMemory, policyField, policyRefu
 use Rattle.model.specs.declared.Sizes.{Sizes}
 use Rattle.model.specs.declared.Refusal.{Refusal}
 use Rattle.model.specs.declared.Refusal.the-variants.{PolicyLength, PolicySize}
-use Rattle.policy.specs.Sizes.{fieldResult, sizesResult, inRange, sizeByte, memoryField}
-use Rattle.policy.specs.declared.FieldAnswer.{FieldAnswer}
-use Rattle.policy.specs.declared.FieldAnswer.the-variants as field
-use Rattle.policy.specs.declared.SizesAnswer.the-variants as sizes
+use Rattle.policy_sizes.specs.Sizes.{fieldResult, sizesResult, inRange, sizeByte, memoryField}
+use Rattle.policy_sizes.specs.declared.FieldAnswer.{FieldAnswer}
+use Rattle.policy_sizes.specs.declared.FieldAnswer.the-variants as field
+use Rattle.policy_sizes.specs.declared.SizesAnswer.the-variants as sizes
 use Rattle.model.proofs.Results.{then-then, value-then}
 use Rattle.model.proofs.Gives.{Gives, gives, gives-then, gives-check, gives-any}
 use Rattle.model.proofs.Terms.{and-left, and-right}

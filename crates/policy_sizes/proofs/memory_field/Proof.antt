@@ -1,8 +1,8 @@
--- `policy::memory_field` meets its contract: its two ways out. Assumes nothing.
+-- `policy_sizes::memory_field` meets its contract: its two ways out. Assumes nothing.
 use borrow.Author.Needs.{needs}
-use Rattle.policy.proofs.SizesLaws as laws
-use Rattle.policy.proofs.memory_field.Statement.{statement}
-use Rattle.policy.proofs.memory_field.Tie as tie
+use Rattle.policy_sizes.proofs.SizesLaws as laws
+use Rattle.policy_sizes.proofs.memory_field.Statement.{statement}
+use Rattle.policy_sizes.proofs.memory_field.Tie as tie
 
 returns : tie.Need-returns
 returns c = laws.no-word _ (c .if1 .taken)
