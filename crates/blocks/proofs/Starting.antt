@@ -18,15 +18,19 @@ use Rattle.model.specs.Goals.{Path as ModelPath, registerVariables, blockStart,
 use Rattle.model.specs.Verdict.{leastWorkspace}
 use Rattle.workspace.specs.Layout.{mostVariables, mostAssumptions, mostTableNodes, tableBase, Same}
 use Rattle.nodes.specs.Table.{place, termAt, Formed, Space, Put}
-use Rattle.term_reader.specs.Reader.{RegisterTerms, Ready, ExpressionRead, AtomRead}
-use Rattle.term_reader.specs.declared.Parse.{Parse}
-use Rattle.term_reader.specs.declared.Parse.the-variants.{Term as Found}
-use Rattle.term_reader.specs.declared.AtomParse.{AtomParse}
-use Rattle.term_reader.specs.declared.AtomParse.the-variants.{Atom as FoundAtom}
-use Rattle.term_reader.proofs.Parse.{enum}
-use Rattle.term_reader.proofs.AtomParse.{enum as atom-enum}
-use Rattle.term_reader.proofs.Atoms.{told-expression, told-atom}
-use Rattle.term_reader.proofs.Substitution.{expression-self, atom-self}
+use Rattle.leaf_reader.specs.Leaves.{Ready}
+use Rattle.term_reader.specs.Reader.{RegisterTerms, ExpressionRead}
+use Rattle.leaf_reader.specs.declared.Parse.{Parse}
+use Rattle.leaf_reader.specs.declared.Parse.the-variants.{Term as Found}
+use Rattle.atom_reader.specs.AtomReader.{AtomRead}
+use Rattle.atom_reader.specs.declared.AtomParse.{AtomParse}
+use Rattle.atom_reader.specs.declared.AtomParse.the-variants.{Atom as FoundAtom}
+use Rattle.leaf_reader.proofs.Parse.{enum}
+use Rattle.atom_reader.proofs.AtomParse.{enum as atom-enum}
+use Rattle.term_reader.proofs.Building.{told-expression}
+use Rattle.atom_reader.proofs.Atoms.{told-atom}
+use Rattle.term_reader.proofs.Substitution.{expression-self}
+use Rattle.atom_reader.proofs.Substitution.{atom-self}
 use Rattle.workspace.proofs.Frames.{same-refl, same-trans, same-within}
 use Rattle.nodes.proofs.Table.{formed-none, term-same}
 use Rattle.assumptions.specs.Area.{listed, Listed, Pushed}

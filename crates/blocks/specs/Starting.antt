@@ -12,7 +12,7 @@ use Rattle.model.specs.Goals.{registerVariables, blockStart, assuming, Path as 
 use Rattle.model.specs.Verdict.{leastWorkspace}
 use Rattle.workspace.specs.Layout.{mostAssumptions, tableBase, Same}
 use Rattle.nodes.specs.Table.{termAt, place, Formed, Space}
-use Rattle.term_reader.specs.Reader.{atomNodes}
+use Rattle.atom_reader.specs.AtomReader.{atomNodes}
 use Rattle.assumptions.specs.Area.{slot}
 use Rattle.forms.specs.Area.{Cleared}
 use Rattle.rule_reader.specs.Opening.{registerNodes}

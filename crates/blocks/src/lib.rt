@@ -1,10 +1,10 @@
 // Where a block starts: its assumptions and its credit.
+use atom_reader::AtomParse;
+use leaf_reader::Parse;
 use limits::REGISTERS;
 use model::Comparison;
 use paths::Path;
 use rule_reader::REGISTER_NODES;
-use term_reader::AtomParse;
-use term_reader::Parse;
 ghost use Prim.Native.Nat.{_+_, _≤_, _<_};
 ghost use lib.ListN.{length, getD};
 ghost use Rattle.model.specs.Verdict.{leastWorkspace};
@@ -72,7 +72,7 @@ fn assume(source: &[u8], end: usize, at: usize, number: usize, ws: &mut [u32], p
         return path;
     }
     let registers = path.registers;
-    let read = term_reader::atom(source, ws, end, REGISTERS, registers, at, path.top);
+    let read = atom_reader::atom(source, ws, end, REGISTERS, registers, at, path.top);
     let AtomParse::Atom {
         kind,
         left,

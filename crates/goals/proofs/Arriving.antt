@@ -18,10 +18,10 @@ use Rattle.model.specs.declared.Region.{Region}
 use Rattle.workspace.specs.Layout.{Same}
 use Rattle.nodes.specs.Table.{place, termAt, Formed, Space, Put}
 use Rattle.term_reader.specs.Reader.{ExpressionRead}
-use Rattle.term_reader.specs.declared.Parse.{Parse}
-use Rattle.term_reader.specs.declared.Parse.the-variants.{Term as FoundTerm}
+use Rattle.leaf_reader.specs.declared.Parse.{Parse}
+use Rattle.leaf_reader.specs.declared.Parse.the-variants.{Term as FoundTerm}
 use Rattle.workspace.proofs.Frames.{same-trans}
-use Rattle.term_reader.proofs.Parse.{enum}
+use Rattle.leaf_reader.proofs.Parse.{enum}
 use Rattle.claims.specs.Parts.{claimOf}
 use Rattle.claims.specs.Regions.{regionsOf}
 use Rattle.claims.specs.declared.Claim.the-variants.{Atom as AtomClaim}

@@ -17,11 +17,11 @@ use Rattle.model.specs.declared.Refusal.{Refusal}
 use Rattle.model.specs.declared.Region.{Region}
 use Rattle.workspace.specs.Layout.{Same}
 use Rattle.nodes.specs.Table.{place, termAt}
-use Rattle.term_reader.specs.Reader.{AtomRead}
-use Rattle.term_reader.specs.declared.AtomParse.{AtomParse}
-use Rattle.term_reader.specs.declared.AtomParse.the-variants.{Atom as FoundAtom}
+use Rattle.atom_reader.specs.AtomReader.{AtomRead}
+use Rattle.atom_reader.specs.declared.AtomParse.{AtomParse}
+use Rattle.atom_reader.specs.declared.AtomParse.the-variants.{Atom as FoundAtom}
 use Rattle.workspace.proofs.Frames.{same-refl, same-trans, same-within}
-use Rattle.term_reader.proofs.AtomParse.{enum as atom-enum}
+use Rattle.atom_reader.proofs.AtomParse.{enum as atom-enum}
 use Rattle.claims.specs.Parts.{claimOf}
 use Rattle.claims.specs.Regions.{regionsOf}
 use Rattle.derivation.specs.Deriving.{Derivable, derivedOf, Onward, Derives}

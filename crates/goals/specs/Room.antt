@@ -4,7 +4,7 @@ use Prim.Native.Nat.{ℕ, _+_, _*_}
 use Rattle.model.specs.Expression.{mostNodes}
 use Rattle.model.specs.Derivation.{mostLevels}
 use Rattle.nodes.specs.Table.{Space}
-use Rattle.term_reader.specs.Reader.{atomNodes}
+use Rattle.atom_reader.specs.AtomReader.{atomNodes}
 use Rattle.claims.specs.Regions.{RegionWords}
 use Rattle.derivation.specs.Deriving.{levelRoom}
 use Rattle.paths.specs.declared.Path.{Path}

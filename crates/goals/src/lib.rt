@@ -1,14 +1,14 @@
 // Goals: each is made, derived at once where the proof has been read to, counted and forgotten.
+use atom_reader::AtomParse;
 use claims::Claim;
 use claims::Goal;
 use claims::Scope;
 use derivation::Derived;
+use leaf_reader::Parse;
 use limits::REGISTERS;
 use model::Comparison;
 use model::Refusal;
 use paths::Path;
-use term_reader::AtomParse;
-use term_reader::Parse;
 ghost use Prim.Native.Nat.{_+_, _≤_, _<_};
 ghost use lib.ListN.{length};
 ghost use Rattle.nodes.specs.Table.{termAt};
@@ -83,7 +83,7 @@ fn atoms(
         return Judged::Next(progress);
     }
     let registers = path.registers;
-    let read = term_reader::atom(source, ws, end, REGISTERS, registers, at, path.top);
+    let read = atom_reader::atom(source, ws, end, REGISTERS, registers, at, path.top);
     let AtomParse::Atom {
         kind,
         left,

@@ -12,19 +12,23 @@ use Rattle.model.specs.Atom.{Atom, substituteAtom}
 use Rattle.model.specs.Expression.{registerCount, expressionAt, atomAt, mostNodes}
 use Rattle.model.specs.declared.Comparison.{Comparison}
 use Rattle.nodes.specs.Table.{termAt}
-use Rattle.term_reader.specs.Reader.{mapped, ExpressionRead, AtomRead, atomNodes}
-use Rattle.term_reader.specs.declared.Parse.{Parse}
-use Rattle.term_reader.specs.declared.Parse.the-variants.{Term as Found, Missing, Fault}
-use Rattle.term_reader.specs.declared.AtomParse.{AtomParse}
-use Rattle.term_reader.specs.declared.AtomParse.the-variants.{Atom as FoundAtom, Missing as MissingAtom, Fault as FaultAtom}
-use Rattle.term_reader.proofs.Parse.{enum}
-use Rattle.term_reader.proofs.AtomParse.{enum as atom-enum}
+use Rattle.leaf_reader.specs.Leaves.{mapped}
+use Rattle.term_reader.specs.Reader.{ExpressionRead}
+use Rattle.leaf_reader.specs.declared.Parse.{Parse}
+use Rattle.leaf_reader.specs.declared.Parse.the-variants.{Term as Found, Missing, Fault}
+use Rattle.atom_reader.specs.AtomReader.{AtomRead, atomNodes}
+use Rattle.atom_reader.specs.declared.AtomParse.{AtomParse}
+use Rattle.atom_reader.specs.declared.AtomParse.the-variants.{Atom as FoundAtom, Missing as MissingAtom, Fault as FaultAtom}
+use Rattle.leaf_reader.proofs.Parse.{enum}
+use Rattle.atom_reader.proofs.AtomParse.{enum as atom-enum}
 use Rattle.paths.specs.declared.Path.{Path}
 use Rattle.paths.specs.Walking.{raisedTo, NodeIn, PathIn}
 use Rattle.paths.proofs.Reading.{same-value}
 use Rattle.paths.proofs.Walking.{Above, above-path, registers-terms, registers-bound}
-use Rattle.term_reader.proofs.Atoms.{told-expression, told-atom}
-use Rattle.term_reader.proofs.Substitution.{expression-substituted, atom-substituted}
+use Rattle.term_reader.proofs.Building.{told-expression}
+use Rattle.atom_reader.proofs.Atoms.{told-atom}
+use Rattle.term_reader.proofs.Substitution.{expression-substituted}
+use Rattle.atom_reader.proofs.Substitution.{atom-substituted}
 
 -- ---- answers that are no value
 found-mapped : {E A B : Type 0} (f : A → B) (x : Result E A) {b : B} → value b ≡ mapped f x → (a : A) × (x ≡ value a) × (b ≡ f a)

@@ -12,7 +12,8 @@ use Rattle.model.specs.Linear.{variableBound}
 use Rattle.model.specs.Expression.{registerCount}
 use Rattle.workspace.specs.Layout.{tableBase, Same}
 use Rattle.nodes.specs.Table.{place, termAt, Formed, Space, Put}
-use Rattle.term_reader.specs.Reader.{RegisterTerms, Ready}
+use Rattle.leaf_reader.specs.Leaves.{Ready}
+use Rattle.term_reader.specs.Reader.{RegisterTerms}
 use Rattle.workspace.proofs.Frames.{same-refl, same-trans, same-within}
 use Rattle.derivation.proofs.ApplyLaws.{prepared-grown}
 use Rattle.paths.specs.declared.Path.{Path}

@@ -22,10 +22,11 @@ use Rattle.model.specs.declared.Refusal.{Refusal}
 use Rattle.model.specs.declared.Refusal.the-variants.{ProofExhausted, UnfitRule, BadArgument}
 use Rattle.model.proofs.Lists.{Every, empty, _&_}
 use Rattle.nodes.specs.Table.{place, termAt, Formed}
-use Rattle.term_reader.specs.Reader.{expressionAnswer, Ready, ExpressionRead}
-use Rattle.term_reader.specs.declared.Parse.{Parse}
-use Rattle.term_reader.specs.declared.Parse.the-variants.{Term as Found, Missing, Fault}
-use Rattle.term_reader.proofs.Parse.{enum as parse-enum}
+use Rattle.leaf_reader.specs.Leaves.{Ready}
+use Rattle.term_reader.specs.Reader.{expressionAnswer, ExpressionRead}
+use Rattle.leaf_reader.specs.declared.Parse.{Parse}
+use Rattle.leaf_reader.specs.declared.Parse.the-variants.{Term as Found, Missing, Fault}
+use Rattle.leaf_reader.proofs.Parse.{enum as parse-enum}
 use Rattle.nodes.proofs.Table.{formed-less}
 use Rattle.workspace.proofs.Frames.{same-refl}
 use Rattle.term_reader.proofs.Building.{Refused as NoTerm, no-term}

@@ -14,8 +14,8 @@ use Rattle.model.specs.declared.Refusal.the-variants.{ProofExhausted, BadArgume
 use Rattle.workspace.specs.Layout.{mostVariables, Same}
 use Rattle.nodes.specs.Table.{place, Formed, Space}
 use Rattle.term_reader.specs.Reader.{RegisterTerms}
-use Rattle.term_reader.specs.declared.Parse.{Parse}
-use Rattle.term_reader.specs.declared.Parse.the-variants.{Term as Found, Missing, Fault}
+use Rattle.leaf_reader.specs.declared.Parse.{Parse}
+use Rattle.leaf_reader.specs.declared.Parse.the-variants.{Term as Found, Missing, Fault}
 use Rattle.claims.specs.Rule.{ruleOf}
 use Rattle.rule_reader.specs.declared.Form.{Form}
 use Rattle.rule_reader.specs.declared.Form.the-variants.{Plain, Index, Argument, Region, Unknown}

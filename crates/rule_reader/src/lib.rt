@@ -1,8 +1,8 @@
 // A rule read from the proof: its number, its argument, and the next position.
+use leaf_reader::Parse;
 use limits::REGISTERS;
 use model::Refusal;
 use term_reader;
-use term_reader::Parse;
 ghost use mathlib.Core.Path.{_≡_};
 ghost use mathlib.Core.List.{List};
 ghost use Prim.Native.Nat.{ℕ};

@@ -1,4 +1,4 @@
--- Laws of the reader that builds in the table: one for each way out. Assumes nothing.
+-- Laws of the reader that builds expressions in the table: one for each way out. Assumes nothing.
 use mathlib.Core.Path.{_≡_, refl, sym, ap, subst, _∙_, fun-ext}
 use mathlib.Core.Logic.{⊎-elim, _⊎_}
 use mathlib.Core.Option.{some}
@@ -8,31 +8,23 @@ use native.Mathlib.Numerals.{add-one}
 use native.Mathlib.Omega.{arith}
 use native.Mathlib.Decide.{decLt}
 use lib.ListN.{length, getD, getElem?}
-use borrow.Author.Tests.{lt-ltb, le-ltb}
 use denote.Enum.Declared.{tagOf, declared}
-use Rattle.model.specs.Word.{le16, le32}
 use Rattle.model.specs.Result.{value, _>>=_}
-use Rattle.model.specs.Term.{Term, constant, variable, shift}
-use Rattle.model.specs.Expression.{Form, four-byte-constant, two-byte-variable, two-expressions, count-and-expression, forms, mostCount, Nodes, nodesAt, registerCount}
+use Rattle.model.specs.Term.{Term, shift}
+use Rattle.model.specs.Expression.{Form, two-expressions, count-and-expression, forms, mostCount, mostNodes, Nodes, nodesAt, expressionAt, registerCount}
 use Rattle.workspace.specs.Layout.{mostVariables, tableBase, Same}
 use Rattle.nodes.specs.Table.{operationOf, place, termAt, Formed, Space, Put}
-use Rattle.term_reader.specs.Reader.{mapped, nodesOver, variableTerm, nodesAnswer, topAfter, leftAfter, Within, Ready, Grown, NodeRead, NodesRead}
-use Rattle.term_reader.specs.declared.Parse.{Parse}
-use Rattle.term_reader.specs.declared.Parse.the-variants.{Term as Found, Missing, Fault}
-use Rattle.term_reader.proofs.Parse.{enum}
+use Rattle.leaf_reader.specs.Leaves.{mapped, nodesOver, variableTerm, nodesAnswer, Ready, Grown, NodeRead}
+use Rattle.term_reader.specs.Reader.{expressionAnswer, NodesRead, ExpressionRead}
+use Rattle.leaf_reader.specs.declared.Parse.{Parse}
+use Rattle.leaf_reader.specs.declared.Parse.the-variants.{Term as Found, Missing, Fault}
+use Rattle.leaf_reader.proofs.Parse.{enum}
+use Rattle.leaf_reader.proofs.Leaves.{variable-register, variable-new, grown-level, grown-missing, grown-fault}
 use Rattle.workspace.proofs.Frames.{same-refl, same-trans, same-within}
 use Rattle.nodes.proofs.Table.{term-same, formed-less}
-use Rattle.term_reader.proofs.Reading.{form-pair, form-unknown, constant-missing, constant-found, variable-missing, variable-fault, variable-found, shift-missing, shift-fault, nodes-missing, nodes-spent, nodes-unknown, nodes-form, applied, pairOf, operation-keeps, shift-over, pair-over, node-pair, node-shift}
+use Rattle.term_reader.proofs.Reading.{form-pair, form-unknown, shift-missing, shift-fault, nodes-missing, nodes-spent, nodes-unknown, nodes-form, applied, pairOf, operation-keeps, shift-over, pair-over, node-pair, node-shift, withoutLeft, without-over}
 
--- ---- the term of a variable
-pub variable-register : (ws registers : List ℕ) (v : ℕ) → v < registerCount → termAt ws (getD registers v 0) ≡ variableTerm ws registers v
-unfolding variableTerm
-variable-register ws registers v h = rw (lt-ltb v registerCount h, variableTerm)
-
-pub variable-new : (ws registers : List ℕ) (v : ℕ) → registerCount ≤ v → variable v ≡ variableTerm ws registers v
-unfolding variableTerm
-variable-new ws registers v h = rw (le-ltb v registerCount h, variableTerm)
-
+-- ---- the terms of the variables
 -- words that keep the table give each variable the same term
 pub variable-same : {ws us : List ℕ} (registers : List ℕ) (top : ℕ) → ((v : ℕ) → v < registerCount → getD registers v 0 < top) → Same 0 (place top) ws us → variableTerm us registers ≡ variableTerm ws registers
 variable-same {ws} {us} registers top r s = fun-ext (λ v. at v (decLt v registerCount))
@@ -49,23 +41,6 @@ pub no-term : {A : Type 0} → (_≡_ {A = ℕ} 0 1) ⊎ (_≡_ {A = ℕ} 0 2) �
 no-term o = ⊎-elim (λ (e : 0 ≡ 1). absurd (omega arith)) (λ (e : 0 ≡ 2). absurd (omega arith)) o
 
 -- ---- the table after an answer
--- an answer that leaves the top where it was
-grown-level : {ws us : List ℕ} {end top left : ℕ} (r : Parse) → topAfter top r ≡ top → leftAfter left r ≤ left → Within end r → Same 0 (place top) ws us → Formed us top → Grown ws us end top left r
-grown-level {us = us} r e l w s f = record { kept = s; formed = subst (Formed us) (sym e) f; within = w; grows = omega arith; few = omega arith }
-
-module _ {ws : List ℕ} {end top left : ℕ} (f : Formed ws top) where
-  grown-missing : Grown ws ws end top left Missing
-  grown-missing = grown-level Missing refl (omega arith) tt (same-refl 0 (place top) ws) f
-
-  grown-fault : (p : ℕ) → Grown ws ws end top left (Fault p)
-  grown-fault p = grown-level (Fault p) refl (omega arith) tt (same-refl 0 (place top) ws) f
-
-  grown-register : {a next : ℕ} → a < top → next ≤ end → Grown ws ws end top left (Found a next (left - 1) top)
-  grown-register h n = grown-level (Found _ _ _ _) refl (omega arith) (h, n) (same-refl 0 (place top) ws) f
-
-grown-put : {ws us : List ℕ} {end top left next : ℕ} {t : Term} → 0 < left → next ≤ end → Put ws us top t → Grown ws us end top left (Found top next (left - 1) (top + 1))
-grown-put {us = us} {top = top} h n p = record { kept = p .kept; formed = subst (Formed us) (sym (add-one top)) (p .formed); within = (omega arith, n); grows = omega arith; few = omega arith }
-
 -- where the answer is no term, the top and the nodes left are those before
 pub kept-before : {ws us vs : List ℕ} {top t : ℕ} → top ≤ t → Same 0 (place top) ws us → Same 0 (place t) us vs → Same 0 (place top) ws vs
 kept-before {top = top} h s k = same-trans s (same-within 0 (place top) (omega arith) (omega arith) k)
@@ -74,34 +49,6 @@ grown-refused : {ws us vs : List ℕ} {end top t left l : ℕ} (r : Parse) → R
 grown-refused (Found a n l t) o h s g = no-term o
 grown-refused {top = top} Missing o h s g = grown-level Missing refl (omega arith) tt (kept-before h s (g .kept)) (formed-less top h (g .formed))
 grown-refused {top = top} (Fault p) o h s g = grown-level (Fault p) refl (omega arith) tt (kept-before h s (g .kept)) (formed-less top h (g .formed))
-
--- ---- the ways out of `read_constant` and `read_variable`
-module _ {ws registers bytes : List ℕ} {end limit at left top : ℕ} (y : Ready ws registers top left) (h : at < end) (s : 0 < left) where
-  pub read-constant-missing : end - at < 5 → NodeRead ws ws registers bytes end limit at left top four-byte-constant Missing
-  read-constant-missing k = record { answer = λ o. constant-missing bytes end limit _ o left at (omega arith); grown = grown-missing (y .formed) }
-
-  pub read-constant-found : {us : List ℕ} {c : ℕ} → 5 ≤ end - at → c ≡ le32 bytes (at + 1) → Put ws us top (constant c) → NodeRead ws us registers bytes end limit at left top four-byte-constant (Found top (at + 5) (left - 1) (top + 1))
-  read-constant-found k e p = record { answer = λ o. constant-found bytes end limit _ o left at (omega arith) e (p .is); grown = grown-put s (omega arith) p }
-
-  pub read-variable-missing : end - at < 3 → NodeRead ws ws registers bytes end limit at left top two-byte-variable Missing
-  read-variable-missing k = record { answer = λ o. variable-missing bytes end limit _ o left at (omega arith); grown = grown-missing (y .formed) }
-
-  module _ {v : ℕ} (k : 3 ≤ end - at) (e : v ≡ le16 bytes (at + 1)) where
-    pub read-variable-fault : limit ≤ v → NodeRead ws ws registers bytes end limit at left top two-byte-variable (Fault (at + 1))
-    read-variable-fault l = record { answer = λ o. variable-fault bytes end limit _ o left at (omega arith) e l; grown = grown-fault (y .formed) (at + 1) }
-
-    module _ (l : v < limit) where
-      pub read-variable-register : {a : ℕ} → v < registerCount → a ≡ getD registers v 0 → NodeRead ws ws registers bytes end limit at left top two-byte-variable (Found a (at + 3) (left - 1) top)
-      read-variable-register m d = record {
-        answer = λ o. variable-found bytes end limit _ o left at (omega arith) e l (ap (termAt ws) d ∙ variable-register ws registers v m);
-        grown = grown-register (y .formed) (omega (arith, y .held v m)) (omega arith);
-      }
-
-      pub read-variable-new : {us : List ℕ} → registerCount ≤ v → Put ws us top (variable v) → NodeRead ws us registers bytes end limit at left top two-byte-variable (Found top (at + 3) (left - 1) (top + 1))
-      read-variable-new m p = record {
-        answer = λ o. variable-found bytes end limit _ o left at (omega arith) e l (p .is ∙ variable-new ws registers v m);
-        grown = grown-put s (omega arith) p;
-      }
 
 -- ---- the ways out of `read`
 -- with a node left, the depth is one more than some other
@@ -240,23 +187,29 @@ module _ {ws registers : List ℕ} (bytes : List ℕ) {end limit at left top tag
     pub second-refused : {vs : List ℕ} {r : Parse} (q : Parse) → Refused q → NodesRead us vs registers bytes end limit n1 l1 t1 r → r ≡ q → NodesRead ws vs registers bytes end limit at left top q
     second-refused q o z i = operand-refused bytes y afterSecond q o (first .grown .grows) (first .grown .kept) (told z i) (from-second (told z i))
 
-    module _ {vs : List ℕ} {g : Parse} {a2 n2 l2 t2 : ℕ} (z : NodesRead us vs registers bytes end limit n1 l1 t1 g) (i : g ≡ Found a2 n2 l2 t2) where
-      second : NodesRead us vs registers bytes end limit n1 l1 t1 (Found a2 n2 l2 t2)
+    -- what the new node asks, wherever the second operand stands, of whichever nodes a and b it is made
+    module _ {vs : List ℕ} {g : Parse} {p a2 n2 l2 t2 : ℕ} (z : NodesRead us vs registers bytes end limit p l1 t1 g) (i : g ≡ Found a2 n2 l2 t2) where
+      second : NodesRead us vs registers bytes end limit p l1 t1 (Found a2 n2 l2 t2)
       second = told z i
 
       few : t2 + l2 < top + left
       few = omega (arith, some-left bytes y, first .grown .few, second .grown .few)
 
-      pub pair-asked : {a b : ℕ} → a ≡ a1 → b ≡ a2 → length vs ≡ length us → Formed vs t2 × (Space vs t2 1 × (((a < t2) × (b < t2)) × ((1 < tag) × (tag < 5))))
-      pair-asked d e m =
-          (second .grown .formed, (space-after t2 (ready bytes y .space) (omega (arith, few)) (m ∙ k), ((omega (arith, first .grown .within .0, second .grown .grows), omega (arith, second .grown .within .0)), (y .1 .1 .1 .1, y .1 .1 .1 .2))))
+      module _ (m : length vs ≡ length us) where
+        pub pair-space : Space vs t2 1
+        pair-space = space-after t2 (ready bytes y .space) (omega (arith, few)) (m ∙ k)
 
-      pub pair-read : {xs : List ℕ} {a b : ℕ} → a ≡ a1 → b ≡ a2 → Put vs xs t2 (operationOf tag (termAt vs a) (termAt vs b)) → NodesRead ws xs registers bytes end limit at left top (Found t2 n2 l2 (t2 + 1))
-      unfolding _>>=_
-      pair-read {xs} {a} {b} d e w =
-          let one : termAt vs a1 ≡ termAt us a1 = term-same t1 (same-within tableBase (place t1) (omega arith) (omega arith) (second .grown .kept)) a1 (first .grown .within .0) in
-          let put : Put vs xs t2 (operationOf tag (termAt us a1) (termAt vs a2)) = rw (← one, ← d, ← e) w in
-          node-put bytes y (kept-before (first .grown .grows) (first .grown .kept) (second .grown .kept)) (omega (arith, first .grown .grows, second .grown .grows)) few (second .grown .within .1) put (from-second second)
+        pub pair-asked : {a b : ℕ} → (a1 < t2 → a2 < t2 → (a < t2) × (b < t2)) → Formed vs t2 × (Space vs t2 1 × (((a < t2) × (b < t2)) × ((1 < tag) × (tag < 5))))
+        pair-asked d = (second .grown .formed, (pair-space, (d (omega (arith, first .grown .within .0, second .grown .grows)) (second .grown .within .0), (y .1 .1 .1 .1, y .1 .1 .1 .2))))
+
+    pub pair-read : {vs xs : List ℕ} {g : Parse} {a2 n2 l2 t2 a b : ℕ} → NodesRead us vs registers bytes end limit n1 l1 t1 g → g ≡ Found a2 n2 l2 t2 → a ≡ a1 → b ≡ a2 → Put vs xs t2 (operationOf tag (termAt vs a) (termAt vs b))
+        → NodesRead ws xs registers bytes end limit at left top (Found t2 n2 l2 (t2 + 1))
+    unfolding _>>=_
+    pair-read {vs} {xs} {g} {a2} {n2} {l2} {t2} z i d e w =
+        let two : NodesRead us vs registers bytes end limit n1 l1 t1 (Found a2 n2 l2 t2) = second z i in
+        let one : termAt vs a1 ≡ termAt us a1 = term-same t1 (same-within tableBase (place t1) (omega arith) (omega arith) (two .grown .kept)) a1 (first .grown .within .0) in
+        let put : Put vs xs t2 (operationOf tag (termAt us a1) (termAt vs a2)) = rw (← one, ← d, ← e) w in
+        node-put bytes y (kept-before (first .grown .grows) (first .grown .kept) (two .grown .kept)) (omega (arith, first .grown .grows, two .grown .grows)) (few z i) (two .grown .within .1) put (from-second two)
 
 -- ---- `read_shift`: what its calls ask, and its ways out
 abbrev pub ShiftAsked : (ws registers bytes : List ℕ) (end limit at left top : ℕ) → Type 0
@@ -268,6 +221,21 @@ module _ {ws registers : List ℕ} (bytes : List ℕ) {end limit at left top : �
 
   pub count-missing : end - at < 2 → NodesRead ws ws registers bytes end limit at left top Missing
   count-missing h = let l : at < end = y .1 .1 .0 .0 in as-shift (record { answer = λ o. shift-missing bytes end limit _ o left at (omega arith); grown = grown-missing (ready bytes y .formed) })
+
+  -- what the new node asks, wherever the operand stands
+  module _ {us : List ℕ} {f : Parse} {p a1 n1 l1 t1 : ℕ} (x : NodesRead ws us registers bytes end limit p (left - 1) top f) (e : f ≡ Found a1 n1 l1 t1) where
+    operand : NodesRead ws us registers bytes end limit p (left - 1) top (Found a1 n1 l1 t1)
+    operand = told x e
+
+    few-shifted : t1 + l1 < top + left
+    few-shifted = omega (arith, some-left bytes y, operand .grown .few)
+
+    module _ (k : length us ≡ length ws) where
+      pub shift-space : Space us t1 1
+      shift-space = space-after t1 (ready bytes y .space) (omega (arith, few-shifted)) k
+
+      pub shift-asked : {a count : ℕ} → count ≤ mostCount → a ≡ a1 → Formed us t1 × (Space us t1 1 × ((count ≤ mostCount) × (a < t1)))
+      shift-asked m d = (operand .grown .formed, (shift-space, (m, omega (arith, operand .grown .within .0))))
 
   module _ (h : 2 ≤ end - at) where
     pub count-fault : mostCount < getD bytes (at + 1) 0 → NodesRead ws ws registers bytes end limit at left top (Fault (at + 1))
@@ -290,18 +258,27 @@ module _ {ws registers : List ℕ} (bytes : List ℕ) {end limit at left top : �
       pub shift-refused : {us : List ℕ} {r : Parse} (q : Parse) → Refused q → NodesRead ws us registers bytes end limit (at + 2) (left - 1) top r → r ≡ q → NodesRead ws us registers bytes end limit at left top q
       shift-refused q o x e = operand-refused bytes y afterOperand q o (omega arith) (same-refl 0 (place top) ws) (told x e) (from-operand (told x e))
 
-      module _ {us : List ℕ} {f : Parse} {a1 n1 l1 t1 : ℕ} (x : NodesRead ws us registers bytes end limit (at + 2) (left - 1) top f) (e : f ≡ Found a1 n1 l1 t1) where
-        operand : NodesRead ws us registers bytes end limit (at + 2) (left - 1) top (Found a1 n1 l1 t1)
-        operand = told x e
+      pub shift-read : {us xs : List ℕ} {f : Parse} {a1 n1 l1 t1 a : ℕ} → NodesRead ws us registers bytes end limit (at + 2) (left - 1) top f → f ≡ Found a1 n1 l1 t1 → a ≡ a1 → Put us xs t1 (shift (getD bytes (at + 1) 0) (termAt us a))
+          → NodesRead ws xs registers bytes end limit at left top (Found t1 n1 l1 (t1 + 1))
+      unfolding _>>=_
+      shift-read {us} {xs} {f} {a1} {n1} {l1} {t1} x e d w =
+          let one : NodesRead ws us registers bytes end limit (at + 2) (left - 1) top (Found a1 n1 l1 t1) = operand x e in
+          let put : Put us xs t1 (shift (getD bytes (at + 1) 0) (termAt us a1)) = rw (← d) w in
+          node-put bytes y (one .grown .kept) (one .grown .grows) (few-shifted x e) (one .grown .within .1) put (from-operand one)
 
-        few-shifted : t1 + l1 < top + left
-        few-shifted = omega (arith, some-left bytes y, operand .grown .few)
+-- ---- `expression`: its way out, and an answer that is known
+expression-answer : (us : List ℕ) (r : Parse) → expressionAnswer us r ≡ withoutLeft (nodesAnswer us r)
+unfolding _>>=_
+expression-answer us (Found a n l t) = refl
+expression-answer us Missing = refl
+expression-answer us (Fault p) = refl
 
-        pub shift-asked : {a : ℕ} → a ≡ a1 → length us ≡ length ws → Formed us t1 × (Space us t1 1 × ((getD bytes (at + 1) 0 ≤ mostCount) × (a < t1)))
-        shift-asked d k = (operand .grown .formed, (space-after t1 (ready bytes y .space) (omega (arith, few-shifted)) k, (m, omega (arith, operand .grown .within .0))))
+pub expression-read : {ws us registers bytes : List ℕ} {end limit at top : ℕ} {r : Parse} → NodesRead ws us registers bytes end limit at mostNodes top r → ExpressionRead ws us registers bytes end limit at top r
+unfolding expressionAt
+expression-read {ws} {us} {registers} {bytes} {end} {limit} {at} {r = r} a = record {
+  answer = expression-answer us r ∙ ap withoutLeft (a .answer mostNodes (omega arith)) ∙ without-over (variableTerm ws registers) (nodesAt bytes end limit mostNodes mostNodes at);
+  grown = a .grown;
+}
 
-        pub shift-read : {xs : List ℕ} {a : ℕ} → a ≡ a1 → Put us xs t1 (shift (getD bytes (at + 1) 0) (termAt us a)) → NodesRead ws xs registers bytes end limit at left top (Found t1 n1 l1 (t1 + 1))
-        unfolding _>>=_
-        shift-read {xs} {a} d w =
-            let put : Put us xs t1 (shift (getD bytes (at + 1) 0) (termAt us a1)) = rw (← d) w in
-            node-put bytes y (operand .grown .kept) (operand .grown .grows) few-shifted (operand .grown .within .1) put (from-operand operand)
+pub told-expression : {ws us registers bytes : List ℕ} {end limit at top : ℕ} {r q : Parse} → ExpressionRead ws us registers bytes end limit at top r → r ≡ q → ExpressionRead ws us registers bytes end limit at top q
+told-expression {ws} {us} {registers} {bytes} {end} {limit} {at} {top} a e = subst (ExpressionRead ws us registers bytes end limit at top) e a

@@ -1,4 +1,3 @@
 pub mod Reading
 pub mod Building
-pub mod Atoms
 pub mod Substitution

@@ -1,4 +1,4 @@
--- Laws of the model's reading, with a term for each variable: one for each way out of the reader. Assumes nothing.
+-- Laws of the model's reading of an expression, with a term for each variable: one for each way out of the reader. Assumes nothing.
 use mathlib.Core.Path.{_≡_, refl, ap}
 use mathlib.Core.Option.{none, some}
 use mathlib.Core.List.{List}
@@ -6,16 +6,13 @@ use Prim.Native.Nat.{ℕ, zero, suc, _+_, _-_, _<_, _≤_}
 use native.Mathlib.Omega.{arith}
 use lib.ListN.{getD, getElem?}
 use borrow.Author.Tests.{lt-ltb, le-ltb, le-leb, lt-leb}
-use Rattle.model.specs.Word.{le16, le32}
 use Rattle.model.specs.Result.{Result, stop, value, _>>=_, check, found}
-use Rattle.model.specs.Term.{Term, constant, variable, shift}
-use Rattle.model.specs.Atom.{Atom}
-use Rattle.model.specs.Field.{ReadError, missing, fault, byteAt, halfAt, wordAt}
-use Rattle.model.specs.Expression.{Form, four-byte-constant, two-byte-variable, two-expressions, count-and-expression, forms, mostCount, comparisons, Nodes, nodeOf, nodesAt, expressionAt, atomAt}
-use Rattle.model.specs.declared.Comparison.{Comparison}
+use Rattle.model.specs.Term.{Term, shift}
+use Rattle.model.specs.Field.{ReadError, missing, fault, byteAt}
+use Rattle.model.specs.Expression.{Form, two-expressions, count-and-expression, forms, mostCount, Nodes, nodeOf, nodesAt}
 use Rattle.nodes.specs.Table.{operationOf}
-use Rattle.fields.specs.Kind.{kindOf}
-use Rattle.term_reader.specs.Reader.{over, mapped, nodesOver, expressionOver, atomOver}
+use Rattle.leaf_reader.specs.Leaves.{over, mapped, nodesOver}
+use Rattle.term_reader.specs.Reader.{expressionOver}
 
 -- ---- the form of a tag
 pub form-pair : (tag : ℕ) → 1 < tag → tag < 5 → getElem? forms tag ≡ some (two-expressions (operationOf tag))
@@ -36,30 +33,8 @@ form-unknown (suc (suc (suc (suc (suc zero))))) h = absurd (omega arith)
 form-unknown (suc (suc (suc (suc (suc (suc t)))))) h = refl
 
 module _ (bytes : List ℕ) (end limit : ℕ) where
-  -- ---- a node, by the form after its tag
+  -- ---- a shift whose count cannot be read
   module _ (σ : ℕ → Term) (operand : (left p : ℕ) → Nodes) (left at : ℕ) where
-    pub constant-missing : end < at + 5 → stop missing ≡ nodesOver σ (nodeOf bytes end limit operand four-byte-constant left at)
-    unfolding nodeOf wordAt _>>=_ check mapped
-    constant-missing h = rw (lt-leb (at + 1 + 4) end (omega arith))
-
-    pub constant-found : {c : ℕ} {t : Term} → at + 5 ≤ end → c ≡ le32 bytes (at + 1) → t ≡ constant c
-        → value (t, at + 5, left - 1) ≡ nodesOver σ (nodeOf bytes end limit operand four-byte-constant left at)
-    unfolding nodeOf wordAt _>>=_ check mapped over
-    constant-found h e d = rw (le-leb (at + 1 + 4) end (omega arith), d, e)
-
-    pub variable-missing : end < at + 3 → stop missing ≡ nodesOver σ (nodeOf bytes end limit operand two-byte-variable left at)
-    unfolding nodeOf halfAt _>>=_ check mapped
-    variable-missing h = rw (lt-leb (at + 1 + 2) end (omega arith))
-
-    module _ {v : ℕ} (h : at + 3 ≤ end) (e : v ≡ le16 bytes (at + 1)) where
-      pub variable-fault : limit ≤ v → stop (fault (at + 1)) ≡ nodesOver σ (nodeOf bytes end limit operand two-byte-variable left at)
-      unfolding nodeOf halfAt _>>=_ check mapped
-      variable-fault l = rw (le-leb (at + 1 + 2) end (omega arith), ← e, le-ltb v limit l)
-
-      pub variable-found : {t : Term} → v < limit → t ≡ σ v → value (t, at + 3, left - 1) ≡ nodesOver σ (nodeOf bytes end limit operand two-byte-variable left at)
-      unfolding nodeOf halfAt _>>=_ check mapped over
-      variable-found l d = rw (le-leb (at + 1 + 2) end (omega arith), ← e, lt-ltb v limit l, d)
-
     pub shift-missing : end < at + 2 → stop missing ≡ nodesOver σ (nodeOf bytes end limit operand (count-and-expression shift) left at)
     unfolding nodeOf byteAt _>>=_ check mapped
     shift-missing h = rw (lt-leb (at + 1 + 1) end (omega arith))
@@ -142,53 +117,3 @@ pub without-over : (σ : ℕ → Term) (x : Nodes) → withoutLeft (nodesOver σ
 unfolding _>>=_ mapped
 without-over σ (stop e) = refl
 without-over σ (value z) = refl
-
--- ---- an atom
-comparison-kind : (tag : ℕ) → tag < 4 → getElem? comparisons tag ≡ some (kindOf tag)
-comparison-kind zero h = refl
-comparison-kind (suc zero) h = refl
-comparison-kind (suc (suc zero)) h = refl
-comparison-kind (suc (suc (suc zero))) h = refl
-comparison-kind (suc (suc (suc (suc t)))) h = absurd (omega arith)
-
-comparison-unknown : (tag : ℕ) → 4 ≤ tag → getElem? comparisons tag ≡ none
-comparison-unknown zero h = absurd (omega arith)
-comparison-unknown (suc zero) h = absurd (omega arith)
-comparison-unknown (suc (suc zero)) h = absurd (omega arith)
-comparison-unknown (suc (suc (suc zero))) h = absurd (omega arith)
-comparison-unknown (suc (suc (suc (suc t)))) h = refl
-
--- two expressions as the sides of an atom
-abbrev pub twoSides : Comparison → Result ReadError (Term × ℕ) → (ℕ → Result ReadError (Term × ℕ)) → Result ReadError (Atom × ℕ)
-twoSides kind x y = do
-  (s, q) ← x
-  (t, r) ← y q
-  value (record { kind = kind; left = s; right = t }, r)
-
-abbrev pub rightSide : Comparison → Term → Result ReadError (Term × ℕ) → Result ReadError (Atom × ℕ)
-rightSide kind s y = y >>= (λ z. value (record { kind = kind; left = s; right = z .0 }, z .1))
-
-module _ (σ : ℕ → Term) (kind : Comparison) where
-  pub right-over : (s : Term) (y : Result ReadError (Term × ℕ)) → atomOver σ (rightSide kind s y) ≡ rightSide kind (over σ s) (expressionOver σ y)
-  unfolding _>>=_ mapped
-  right-over s (stop e) = refl
-  right-over s (value z) = refl
-
-  pub sides-over : (x : Result ReadError (Term × ℕ)) (y : ℕ → Result ReadError (Term × ℕ)) → atomOver σ (twoSides kind x y) ≡ twoSides kind (expressionOver σ x) (λ q. expressionOver σ (y q))
-  unfolding _>>=_ mapped
-  sides-over (stop e) y = refl
-  sides-over (value z) y = right-over (z .0) (y (z .1))
-
-module _ (bytes : List ℕ) (end limit at : ℕ) where
-  pub atom-missing : end ≤ at → stop missing ≡ atomAt bytes end limit at
-  unfolding atomAt byteAt _>>=_ check
-  atom-missing h = rw (lt-leb (at + 1) end (omega arith))
-
-  module _ (h : at < end) where
-    pub atom-unknown : 4 ≤ getD bytes at 0 → stop (fault at) ≡ atomAt bytes end limit at
-    unfolding atomAt byteAt _>>=_ check found
-    atom-unknown u = rw (le-leb (at + 1) end (omega arith), comparison-unknown (getD bytes at 0) u)
-
-    pub atom-sides : getD bytes at 0 < 4 → twoSides (kindOf (getD bytes at 0)) (expressionAt bytes end limit (at + 1)) (λ q. expressionAt bytes end limit q) ≡ atomAt bytes end limit at
-    unfolding atomAt byteAt _>>=_ check found
-    atom-sides u = rw (le-leb (at + 1) end (omega arith), comparison-kind (getD bytes at 0) u)

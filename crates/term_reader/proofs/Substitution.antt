@@ -1,4 +1,4 @@
--- Laws of what is read over other terms: over the variables themselves, and over the registers' terms. Assumes nothing.
+-- Laws of an expression read over other terms: over the variables themselves, and over the registers' terms. Assumes nothing.
 use mathlib.Core.Path.{_≡_, refl, sym, ap, ap₂, _∙_, fun-ext}
 use mathlib.Core.Bool.{Bool, true, false}
 use mathlib.Core.List.{List, [], _∷_}
@@ -10,17 +10,17 @@ use lib.ListN.{getD, getElem?}
 use borrow.Author.Tests.{ltb-true}
 use Rattle.model.specs.Result.{Result, stop, value, _>>=_, check, found}
 use Rattle.model.specs.Term.{Term, constant, variable, sum, difference, mask, shift, substitute}
-use Rattle.model.specs.Atom.{Atom, substituteAtom}
 use Rattle.model.specs.Field.{ReadError, fault, byteAt, halfAt, wordAt}
-use Rattle.model.specs.Expression.{two-expressions, forms, mostCount, comparisons, Nodes, nodeOf, nodesAt, expressionAt, atomAt, registerCount, mostNodes}
+use Rattle.model.specs.Expression.{two-expressions, forms, mostCount, Nodes, nodeOf, nodesAt, expressionAt, registerCount, mostNodes}
 use Rattle.model.specs.Goals.{registerVariables}
 use Rattle.workspace.specs.Layout.{tableBase, Same}
 use Rattle.nodes.specs.Table.{operationOf, place}
-use Rattle.term_reader.specs.Reader.{over, mapped, nodesOver, expressionOver, atomOver, variableTerm, RegisterTerms}
+use Rattle.leaf_reader.specs.Leaves.{over, mapped, nodesOver, variableTerm}
+use Rattle.leaf_reader.proofs.Leaves.{variable-register, variable-new}
+use Rattle.term_reader.specs.Reader.{expressionOver, RegisterTerms}
 use Rattle.workspace.proofs.Frames.{same-within}
 use Rattle.nodes.proofs.Table.{term-same}
-use Rattle.term_reader.proofs.Reading.{applied, pairOf, operation-keeps, shift-over, pair-over, withoutLeft, without-over, twoSides, sides-over}
-use Rattle.term_reader.proofs.Building.{variable-register, variable-new}
+use Rattle.term_reader.proofs.Reading.{applied, pairOf, operation-keeps, shift-over, pair-over, withoutLeft, without-over}
 
 -- ---- terms
 pub over-variable : (t : Term) → over variable t ≡ t
@@ -43,7 +43,7 @@ over-registers terms (shift count s) = ap (shift count) (over-registers terms s)
 
 -- ---- what is read has variables below the limit, so terms that agree there give the same
 module _ {E B C : Type 0} (f g : B → C) where
-  bind-agree : {A : Type 0} (x : Result E A) (k : A → Result E B) → ((a : A) → mapped f (k a) ≡ mapped g (k a)) → mapped f (x >>= k) ≡ mapped g (x >>= k)
+  pub bind-agree : {A : Type 0} (x : Result E A) (k : A → Result E B) → ((a : A) → mapped f (k a) ≡ mapped g (k a)) → mapped f (x >>= k) ≡ mapped g (x >>= k)
   unfolding _>>=_ mapped
   bind-agree (stop e) k h = refl
   bind-agree (value a) k h = h a
@@ -87,14 +87,6 @@ module _ (bytes : List ℕ) (end limit : ℕ) (σ τ : ℕ → Term) (agree : (v
   unfolding expressionAt
   expression-agree p = sym (without-over σ (nodesAt bytes end limit mostNodes mostNodes p)) ∙ ap withoutLeft (nodes-agree mostNodes mostNodes p) ∙ without-over τ (nodesAt bytes end limit mostNodes mostNodes p)
 
-  pub atom-agree : (p : ℕ) → atomOver σ (atomAt bytes end limit p) ≡ atomOver τ (atomAt bytes end limit p)
-  unfolding atomAt
-  atom-agree p =
-      bind-agree _ _ (byteAt bytes end p) _ (λ tag. bind-agree _ _ (found (getElem? comparisons tag) (fault p)) _ (λ kind.
-      sides-over σ kind (expressionAt bytes end limit (p + 1)) (λ q. expressionAt bytes end limit q)
-      ∙ ap₂ (λ x y. twoSides kind x y) (expression-agree (p + 1)) (fun-ext (λ q. expression-agree q))
-      ∙ sym (sides-over τ kind (expressionAt bytes end limit (p + 1)) (λ q. expressionAt bytes end limit q))))
-
 -- ---- registers whose terms are known
 pub register-terms-same : {ws us registers : List ℕ} {terms : List Term} (top : ℕ) → ((v : ℕ) → v < registerCount → getD registers v 0 < top) → Same 0 (place top) ws us → RegisterTerms ws registers terms → RegisterTerms us registers terms
 register-terms-same {registers = registers} top r s h = record { is = λ v l. term-same top (same-within tableBase (place top) (omega arith) (omega arith) s) (getD registers v 0) (r v l) ∙ h .is v l }
@@ -105,12 +97,6 @@ module _ {ws registers : List ℕ} {terms : List Term} (h : RegisterTerms ws reg
   expression-substituted =
       expression-agree bytes end registerCount (variableTerm ws registers) (λ v. getD terms v (constant 0)) (λ v l. sym (variable-register ws registers v l) ∙ h .is v l) p
       ∙ ap (λ f. mapped f (expressionAt bytes end registerCount p)) (fun-ext (λ y. ap (λ t. (t, y .1)) (over-registers terms (y .0))))
-
-  pub atom-substituted : atomOver (variableTerm ws registers) (atomAt bytes end registerCount p) ≡ mapped (λ y. (substituteAtom terms (y .0), y .1)) (atomAt bytes end registerCount p)
-  unfolding substituteAtom
-  atom-substituted =
-      atom-agree bytes end registerCount (variableTerm ws registers) (λ v. getD terms v (constant 0)) (λ v l. sym (variable-register ws registers v l) ∙ h .is v l) p
-      ∙ ap (λ f. mapped f (atomAt bytes end registerCount p)) (fun-ext (λ y. ap₂ (λ s t. (record { kind = y .0 .kind; left = s; right = t }, y .1)) (over-registers terms (y .0 .left)) (over-registers terms (y .0 .right))))
 
 -- the registers are the variables themselves: what is read is unchanged, whatever the limit
 abbrev variablesFrom : (n v : ℕ) → List Term
@@ -126,7 +112,7 @@ register-variable : (v : ℕ) → v < registerCount → getD registerVariables v
 register-variable v h = variable-at registerCount 0 v h ∙ ap variable (omega arith)
 
 module _ {ws registers : List ℕ} (h : RegisterTerms ws registers registerVariables) where
-  variables-self : variableTerm ws registers ≡ variable
+  pub variables-self : variableTerm ws registers ≡ variable
   variables-self = fun-ext (λ v. at v (decLt v registerCount))
     where
       at : (v : ℕ) → Dec (v < registerCount) → variableTerm ws registers v ≡ variable v
@@ -137,8 +123,3 @@ module _ {ws registers : List ℕ} (h : RegisterTerms ws registers registerVaria
   unfolding mapped
   expression-self (stop e) = refl
   expression-self (value z) = rw variables-self (ap (λ t. value (t, z .1)) (over-variable (z .0)))
-
-  pub atom-self : (x : Result ReadError (Atom × ℕ)) → atomOver (variableTerm ws registers) x ≡ x
-  unfolding mapped
-  atom-self (stop e) = refl
-  atom-self (value z) = rw variables-self (ap₂ (λ s t. value (record { kind = z .0 .kind; left = s; right = t }, z .1)) (over-variable (z .0 .left)) (over-variable (z .0 .right)))

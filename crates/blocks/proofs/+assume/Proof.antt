@@ -8,8 +8,8 @@ use Rattle.blocks.proofs.assume.Kinds as kinds
 use Rattle.blocks.proofs.+assume.Lts-assume as lts
 use Rattle.blocks.proofs.assuming.Reads as assuming-reads
 use Rattle.paths.proofs.raised.Reads as raised-reads
-use Rattle.term_reader.proofs.atom.Reads as atom-reads
-use Rattle.term_reader.specs.Reader.{atomNodes}
+use Rattle.atom_reader.proofs.atom.Reads as atom-reads
+use Rattle.atom_reader.specs.AtomReader.{atomNodes}
 use Rattle.blocks.proofs.+assume.{statement}
 use Rattle.blocks.proofs.+assume.Tie.{close}
 use Rattle.paths.proofs.Walking.{path-ready}

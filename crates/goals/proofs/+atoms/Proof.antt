@@ -8,8 +8,8 @@ use Rattle.goals.proofs.atoms.Kinds as kinds
 use Rattle.goals.proofs.+atoms.Lts-atoms as lts
 use Rattle.goals.proofs.goal.Reads as goal-reads
 use Rattle.paths.proofs.raised.Reads as raised-reads
-use Rattle.term_reader.proofs.atom.Reads as atom-reads
-use Rattle.term_reader.specs.Reader.{atomNodes}
+use Rattle.atom_reader.proofs.atom.Reads as atom-reads
+use Rattle.atom_reader.specs.AtomReader.{atomNodes}
 use Rattle.goals.proofs.+atoms.{statement}
 use Rattle.goals.proofs.+atoms.Tie.{close}
 use Rattle.paths.proofs.Walking.{path-ready}

@@ -1,5 +1,5 @@
 use Rattle.rule_reader.proofs.OpeningLaws.{opening-ready, opens-argument, opens-no-argument}
-use Rattle.term_reader.proofs.Atoms.{told-expression}
+use Rattle.term_reader.proofs.Building.{told-expression}
 use native.Mathlib.Omega.{arith}
 use borrow.Author.Needs.{needs}
 use Rattle.rule_reader.proofs.with_argument.Statement.{statement}

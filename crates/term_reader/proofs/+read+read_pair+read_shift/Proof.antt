@@ -1,7 +1,7 @@
 use mathlib.Core.Path.{refl}
 use mathlib.Core.Logic.{inl, inr}
-use Rattle.term_reader.specs.declared.Parse.the-variants.{Missing, Fault}
-use Rattle.term_reader.proofs.Building.{read-missing, read-spent, read-unknown, read-form, readMeasure, operandsMeasure, first-asked, first-refused, second-asked, second-refused, pair-asked, pair-read, count-missing, count-fault, shift-refused, shift-asked, shift-read}
+use Rattle.leaf_reader.specs.declared.Parse.the-variants.{Missing, Fault}
+use Rattle.term_reader.proofs.Building.{read-missing, read-spent, read-unknown, read-form, readMeasure, operandsMeasure, first-asked, first-refused, second-asked, second-refused, pair-space, pair-asked, pair-read, count-missing, count-fault, shift-refused, shift-space, shift-asked, shift-read}
 use borrow.Author.Needs.{needs}
 use native.Mathlib.Omega.{arith}
 use Prim.Native.Nat.{ℕ, _<_}
@@ -17,8 +17,8 @@ use Rattle.term_reader.proofs.read_shift.Reads as shift-it
 use Rattle.term_reader.proofs.read_shift.Kinds as shift-kinds
 use Rattle.term_reader.proofs.+read+read_pair+read_shift.Lts-read_shift as shift-lts
 use Rattle.fields.proofs.wide.Reads as wide-reads
-use Rattle.term_reader.proofs.read_constant.Reads as read-constant-reads
-use Rattle.term_reader.proofs.read_variable.Reads as read-variable-reads
+use Rattle.leaf_reader.proofs.read_constant.Reads as read-constant-reads
+use Rattle.leaf_reader.proofs.read_variable.Reads as read-variable-reads
 use Rattle.terms.proofs.put_pair.Reads as put-pair-reads
 use Rattle.terms.proofs.put_shift.Reads as put-shift-reads
 use Rattle.term_reader.proofs.+read+read_pair+read_shift.{statement}
@@ -103,13 +103,13 @@ module _ (t : ℕ) where
   pair-read-requires-2 c κs = second-asked _ (c .before .before .before .before .before .before .before .before .before .before .pre .1) (c .before .before .before .before .before .before .read .ensures) (c .before .before .a .given .1) (c .before .before .before .before .before .before .read .kept .1 .0) (c .before .before .before .before .before .before .before .before .before .before .pre .0)
 
   pair-put-pair-requires : pair-lts.Need-put-pair-requires (pair-R t) (pair-given t) pair-it.Post
-  pair-put-pair-requires c κs = pair-asked _ (c .before .before .before .before .before .before .before .before .before .before .before .before .before .before .before .before .before .before .before .pre .1) (c .before .before .before .before .before .before .before .before .before .before .before .before .before .before .before .read .ensures) (c .before .before .before .before .before .before .before .before .before .before .before .a .given .1) (c .before .before .before .before .before .before .before .before .before .before .before .before .before .before .before .read .kept .1 .0) (c .before .before .before .before .before .before .before .before .read2 .ensures) (c .before .before .before .before .b .given .1) (c .before .wide .ensures) (c .wide2 .ensures) (c .before .before .before .before .before .before .before .before .read2 .kept .1 .0)
+  pair-put-pair-requires c κs = pair-asked _ (c .before .before .before .before .before .before .before .before .before .before .before .before .before .before .before .before .before .before .before .pre .1) (c .before .before .before .before .before .before .before .before .before .before .before .before .before .before .before .read .ensures) (c .before .before .before .before .before .before .before .before .before .before .before .a .given .1) (c .before .before .before .before .before .before .before .before .before .before .before .before .before .before .before .read .kept .1 .0) (c .before .before .before .before .before .before .before .before .read2 .ensures) (c .before .before .before .before .b .given .1) (c .before .before .before .before .before .before .before .before .read2 .kept .1 .0) (λ h k. (omega (arith, c .before .wide .ensures, c .wide2 .ensures), omega (arith, c .before .wide .ensures, c .wide2 .ensures)))
 
   pair-cast-t33 : pair-lts.Need-cast-t33 (pair-R t) (pair-given t) pair-it.Post
-  pair-cast-t33 c = omega (arith, pair-asked _ (c .before .before .before .before .before .before .before .before .before .before .before .before .before .before .before .before .before .before .before .before .before .before .pre .1) (c .before .before .before .before .before .before .before .before .before .before .before .before .before .before .before .before .before .before .read .ensures) (c .before .before .before .before .before .before .before .before .before .before .before .before .before .before .a .given .1) (c .before .before .before .before .before .before .before .before .before .before .before .before .before .before .before .before .before .before .read .kept .1 .0) (c .before .before .before .before .before .before .before .before .before .before .before .read2 .ensures) (c .before .before .before .before .before .before .before .b .given .1) (c .before .before .before .before .wide .ensures) (c .before .before .before .wide2 .ensures) (c .before .before .before .before .before .before .before .before .before .before .before .read2 .kept .1 .0) .1 .0 .fits)
+  pair-cast-t33 c = omega (arith, pair-space _ (c .before .before .before .before .before .before .before .before .before .before .before .before .before .before .before .before .before .before .before .before .before .before .pre .1) (c .before .before .before .before .before .before .before .before .before .before .before .before .before .before .before .before .before .before .read .ensures) (c .before .before .before .before .before .before .before .before .before .before .before .before .before .before .a .given .1) (c .before .before .before .before .before .before .before .before .before .before .before .before .before .before .before .before .before .before .read .kept .1 .0) (c .before .before .before .before .before .before .before .before .before .before .before .read2 .ensures) (c .before .before .before .before .before .before .before .b .given .1) (c .before .before .before .before .before .before .before .before .before .before .before .read2 .kept .1 .0) .fits)
 
   pair-add-t35 : pair-lts.Need-add-t35 (pair-R t) (pair-given t) pair-it.Post
-  pair-add-t35 c = omega (arith, pair-asked _ (c .before .before .before .before .before .before .before .before .before .before .before .before .before .before .before .before .before .before .before .before .before .before .pre .1) (c .before .before .before .before .before .before .before .before .before .before .before .before .before .before .before .before .before .before .read .ensures) (c .before .before .before .before .before .before .before .before .before .before .before .before .before .before .a .given .1) (c .before .before .before .before .before .before .before .before .before .before .before .before .before .before .before .before .before .before .read .kept .1 .0) (c .before .before .before .before .before .before .before .before .before .before .before .read2 .ensures) (c .before .before .before .before .before .before .before .b .given .1) (c .before .before .before .before .wide .ensures) (c .before .before .before .wide2 .ensures) (c .before .before .before .before .before .before .before .before .before .before .before .read2 .kept .1 .0) .1 .0 .fits)
+  pair-add-t35 c = omega (arith, pair-space _ (c .before .before .before .before .before .before .before .before .before .before .before .before .before .before .before .before .before .before .before .before .before .before .pre .1) (c .before .before .before .before .before .before .before .before .before .before .before .before .before .before .before .before .before .before .read .ensures) (c .before .before .before .before .before .before .before .before .before .before .before .before .before .before .a .given .1) (c .before .before .before .before .before .before .before .before .before .before .before .before .before .before .before .before .before .before .read .kept .1 .0) (c .before .before .before .before .before .before .before .before .before .before .before .read2 .ensures) (c .before .before .before .before .before .before .before .b .given .1) (c .before .before .before .before .before .before .before .before .before .before .before .read2 .kept .1 .0) .fits)
 
   pair-returns : pair-lts.Need-returns (pair-R t) (pair-given t) pair-it.Post
   pair-returns c = first-refused _ (c .before .before .before .before .before .before .before .before .pre .1) Missing (inl refl) (c .before .before .before .before .read .ensures) (c .enum-told .given .1)
@@ -137,10 +137,10 @@ module _ (t : ℕ) where
   shift-read-requires c κs = first-asked (c .before .before .before .before .before .before .args .bytes .now) (c .before .before .before .before .before .before .pre .1) (c .before .before .before .before .before .before .pre .0)
 
   shift-put-shift-requires : shift-lts.Need-put-shift-requires (shift-R t) (shift-given t) shift-it.Post
-  shift-put-shift-requires c κs = shift-asked _ (c .before .before .before .before .before .before .before .before .before .before .before .before .before .before .pre .1) (c .before .before .before .before .before .before .before .before .before .before .before .if1 .left) (c .before .before .before .before .before .before .before .before .before .if2 .left) (c .before .before .before .before .before .before .before .read .ensures) (c .before .before .before .a .given .1) (c .wide .ensures) (c .before .before .before .before .before .before .before .read .kept .1 .0)
+  shift-put-shift-requires c κs = shift-asked _ (c .before .before .before .before .before .before .before .before .before .before .before .before .before .before .pre .1) (c .before .before .before .before .before .before .before .read .ensures) (c .before .before .before .a .given .1) (c .before .before .before .before .before .before .before .read .kept .1 .0) (c .before .before .before .before .before .before .before .before .before .if2 .left) (c .wide .ensures)
 
   shift-cast-t29 : shift-lts.Need-cast-t29 (shift-R t) (shift-given t) shift-it.Post
-  shift-cast-t29 c = omega (arith, shift-asked _ (c .before .before .before .before .before .before .before .before .before .before .before .before .before .before .before .before .before .pre .1) (c .before .before .before .before .before .before .before .before .before .before .before .before .before .before .if1 .left) (c .before .before .before .before .before .before .before .before .before .before .before .before .if2 .left) (c .before .before .before .before .before .before .before .before .before .before .read .ensures) (c .before .before .before .before .before .before .a .given .1) (c .before .before .before .wide .ensures) (c .before .before .before .before .before .before .before .before .before .before .read .kept .1 .0) .1 .0 .fits)
+  shift-cast-t29 c = omega (arith, shift-space _ (c .before .before .before .before .before .before .before .before .before .before .before .before .before .before .before .before .before .pre .1) (c .before .before .before .before .before .before .before .before .before .before .read .ensures) (c .before .before .before .before .before .before .a .given .1) (c .before .before .before .before .before .before .before .before .before .before .read .kept .1 .0) .fits)
 
   shift-returns-3 : shift-lts.Need-returns-3 (shift-R t) (shift-given t) shift-it.Post
   shift-returns-3 c = shift-refused _ (c .before .before .before .before .before .before .before .before .before .before .before .pre .1) (c .before .before .before .before .before .before .before .before .if1 .left) (c .before .before .before .before .before .before .if2 .left) Missing (inl refl) (c .before .before .before .before .read .ensures) (c .enum-told .given .1)

@@ -1,4 +1,4 @@
-use Rattle.term_reader.proofs.Atoms.{expression-read}
+use Rattle.term_reader.proofs.Building.{expression-read}
 use borrow.Author.Needs.{needs}
 use Rattle.term_reader.proofs.expression.Statement.{statement}
 use Rattle.term_reader.proofs.expression.Tie as tie

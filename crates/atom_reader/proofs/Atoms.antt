@@ -1,44 +1,31 @@
--- Laws of the readers of an expression and of an atom: one for each way out. Assumes nothing.
+-- Laws of the reader that builds atoms in the table: one for each way out. Assumes nothing.
 use mathlib.Core.Path.{_≡_, refl, sym, ap, subst, _∙_}
-use mathlib.Core.Logic.{⊎-elim, _⊎_, _≢_}
-use mathlib.Core.Option.{none}
+use mathlib.Core.Logic.{⊎-elim, _⊎_}
 use mathlib.Core.List.{List}
-use Prim.Native.Nat.{ℕ, zero, suc, _+_, _-_, _<_, _≤_}
+use Prim.Native.Nat.{ℕ, _+_, _<_, _≤_}
 use native.Mathlib.Omega.{arith}
 use lib.ListN.{length, getD}
 use denote.Enum.Declared.{tagOf as variantOf, declared}
 use Rattle.model.specs.Result.{Result, _>>=_}
 use Rattle.model.specs.Term.{Term}
 use Rattle.model.specs.Field.{ReadError}
-use Rattle.model.specs.Expression.{nodesAt, expressionAt, atomAt, mostNodes}
+use Rattle.model.specs.Expression.{expressionAt, atomAt, mostNodes}
 use Rattle.model.specs.declared.Comparison.{Comparison}
 use Rattle.fields.specs.Kind.{kindOf}
 use Rattle.workspace.specs.Layout.{tableBase, Same}
 use Rattle.nodes.specs.Table.{place, termAt, Formed}
-use Rattle.term_reader.specs.Reader.{mapped, expressionOver, atomOver, variableTerm, nodesAnswer, expressionAnswer, atomAnswer, unreadOf, atomTop, AtomWithin, Ready, Grown, AtomGrown, NodesRead, ExpressionRead, AtomRead, atomNodes}
-use Rattle.term_reader.specs.declared.Parse.{Parse}
-use Rattle.term_reader.specs.declared.Parse.the-variants.{Term as Found, Missing, Fault}
-use Rattle.term_reader.specs.declared.AtomParse.{AtomParse}
-use Rattle.term_reader.specs.declared.AtomParse.the-variants.{Atom as FoundAtom, Missing as MissingAtom, Fault as FaultAtom}
-use Rattle.term_reader.proofs.Parse.{enum}
+use Rattle.leaf_reader.specs.Leaves.{mapped, variableTerm, Ready, Grown}
+use Rattle.term_reader.specs.Reader.{expressionOver, expressionAnswer, ExpressionRead}
+use Rattle.leaf_reader.specs.declared.Parse.{Parse}
+use Rattle.leaf_reader.specs.declared.Parse.the-variants.{Term as Found, Missing, Fault}
+use Rattle.atom_reader.specs.AtomReader.{atomNodes, atomOver, atomAnswer, unreadOf, atomTop, AtomWithin, AtomGrown, AtomRead}
+use Rattle.atom_reader.specs.declared.AtomParse.{AtomParse}
+use Rattle.atom_reader.specs.declared.AtomParse.the-variants.{Atom as FoundAtom, Missing as MissingAtom, Fault as FaultAtom}
+use Rattle.leaf_reader.proofs.Parse.{enum}
 use Rattle.workspace.proofs.Frames.{same-refl, same-within}
 use Rattle.nodes.proofs.Table.{term-same, formed-less}
-use Rattle.term_reader.proofs.Reading.{withoutLeft, without-over, twoSides, rightSide, sides-over, atom-missing, atom-unknown, atom-sides}
+use Rattle.atom_reader.proofs.Reading.{twoSides, rightSide, sides-over, atom-missing, atom-unknown, atom-sides}
 use Rattle.term_reader.proofs.Building.{Refused, no-term, kept-before, variable-same, ready-after}
-
--- ---- an expression
-expression-answer : (us : List ℕ) (r : Parse) → expressionAnswer us r ≡ withoutLeft (nodesAnswer us r)
-unfolding _>>=_
-expression-answer us (Found a n l t) = refl
-expression-answer us Missing = refl
-expression-answer us (Fault p) = refl
-
-pub expression-read : {ws us registers bytes : List ℕ} {end limit at top : ℕ} {r : Parse} → NodesRead ws us registers bytes end limit at mostNodes top r → ExpressionRead ws us registers bytes end limit at top r
-unfolding expressionAt
-expression-read {ws} {us} {registers} {bytes} {end} {limit} {at} {r = r} a = record {
-  answer = expression-answer us r ∙ ap withoutLeft (a .answer mostNodes (omega arith)) ∙ without-over (variableTerm ws registers) (nodesAt bytes end limit mostNodes mostNodes at);
-  grown = a .grown;
-}
 
 -- ---- an answer that is no term
 side-refused : (kind : Comparison) (y : ℕ → Result ReadError (Term × ℕ)) (us : List ℕ) (r : Parse) → Refused r → atomAnswer us (unreadOf r) ≡ twoSides kind (expressionAnswer us r) y
@@ -62,9 +49,6 @@ atom-grown-refused {top = top} Missing o h s g = atom-grown-level MissingAtom re
 atom-grown-refused {top = top} (Fault p) o h s g = atom-grown-level (FaultAtom p) refl tt (kept-before h s (g .kept)) (formed-less top h (g .formed))
 
 -- ---- the ways out of `atom`
-pub told-expression : {ws us registers bytes : List ℕ} {end limit at top : ℕ} {r q : Parse} → ExpressionRead ws us registers bytes end limit at top r → r ≡ q → ExpressionRead ws us registers bytes end limit at top q
-told-expression {ws} {us} {registers} {bytes} {end} {limit} {at} {top} a e = subst (ExpressionRead ws us registers bytes end limit at top) e a
-
 pub told-atom : {ws us registers bytes : List ℕ} {end limit at top : ℕ} {r q : AtomParse} → AtomRead ws us registers bytes end limit at top r → r ≡ q → AtomRead ws us registers bytes end limit at top q
 told-atom {ws} {us} {registers} {bytes} {end} {limit} {at} {top} a e = subst (AtomRead ws us registers bytes end limit at top) e a
 

@@ -1,10 +1,10 @@
-use Rattle.term_reader.proofs.Atoms.{told-expression, atom-read-missing, atom-read-unknown, atom-left-refused, atom-right-refused, atom-read-found, ready-right}
-use Rattle.term_reader.proofs.Building.{ready-fewer}
+use Rattle.atom_reader.proofs.Atoms.{atom-read-missing, atom-read-unknown, atom-left-refused, atom-right-refused, atom-read-found, ready-right}
+use Rattle.term_reader.proofs.Building.{ready-fewer, told-expression}
 use native.Mathlib.Omega.{arith}
 use borrow.Author.Needs.{needs}
 use Rattle.model.specs.Expression.{mostNodes}
-use Rattle.term_reader.proofs.atom.Statement.{statement}
-use Rattle.term_reader.proofs.atom.Tie as tie
+use Rattle.atom_reader.proofs.atom.Statement.{statement}
+use Rattle.atom_reader.proofs.atom.Tie as tie
 
 returns : tie.Need-returns
 returns c = atom-read-missing (c .before .before .before .pre .1) (c .if1 .taken)

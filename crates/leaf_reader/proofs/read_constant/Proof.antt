@@ -1,8 +1,8 @@
-use Rattle.term_reader.proofs.Building.{read-constant-missing, read-constant-found}
+use Rattle.leaf_reader.proofs.Leaves.{read-constant-missing, read-constant-found}
 use native.Mathlib.Omega.{arith}
 use borrow.Author.Needs.{needs}
-use Rattle.term_reader.proofs.read_constant.Statement.{statement}
-use Rattle.term_reader.proofs.read_constant.Tie as tie
+use Rattle.leaf_reader.proofs.read_constant.Statement.{statement}
+use Rattle.leaf_reader.proofs.read_constant.Tie as tie
 
 returns : tie.Need-returns
 returns c = read-constant-missing (c .before .before .before .pre .1) (c .before .before .before .pre .0 .0) (c .before .before .before .pre .0 .2) (c .if1 .taken)

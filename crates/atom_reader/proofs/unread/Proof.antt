@@ -1,7 +1,7 @@
-use Rattle.term_reader.proofs.Atoms.{unread-fault, unread-other}
+use Rattle.atom_reader.proofs.Atoms.{unread-fault, unread-other}
 use borrow.Author.Needs.{needs}
-use Rattle.term_reader.proofs.unread.Statement.{statement}
-use Rattle.term_reader.proofs.unread.Tie as tie
+use Rattle.atom_reader.proofs.unread.Statement.{statement}
+use Rattle.atom_reader.proofs.unread.Tie as tie
 
 returns : tie.Need-returns
 returns c = unread-fault (c .before .answer .given .1)

@@ -1,9 +1,9 @@
 use mathlib.Core.Path.{refl}
-use Rattle.term_reader.proofs.Building.{read-variable-missing, read-variable-fault, read-variable-register, read-variable-new}
+use Rattle.leaf_reader.proofs.Leaves.{read-variable-missing, read-variable-fault, read-variable-register, read-variable-new}
 use native.Mathlib.Omega.{arith}
 use borrow.Author.Needs.{needs}
-use Rattle.term_reader.proofs.read_variable.Statement.{statement}
-use Rattle.term_reader.proofs.read_variable.Tie as tie
+use Rattle.leaf_reader.proofs.read_variable.Statement.{statement}
+use Rattle.leaf_reader.proofs.read_variable.Tie as tie
 
 returns : tie.Need-returns
 returns c = read-variable-missing (c .before .before .before .pre .1 .1) (c .before .before .before .pre .0 .0) (c .before .before .before .pre .0 .2) (c .if1 .taken)
