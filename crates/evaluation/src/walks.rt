@@ -9,7 +9,6 @@ use model::Instruction;
 use model::Refusal;
 use moves::Moved;
 use moves::MovedAnswer;
-use moves::accesses;
 use moves::assignments;
 use moves::assignments::DIFFERENCE;
 use moves::assignments::MASK;

@@ -1,4 +1,3 @@
 pub mod Moving
 pub mod PathLaws
 pub mod Assigning
-pub mod Accessing

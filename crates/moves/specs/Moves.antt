@@ -1,4 +1,4 @@
--- What running one instruction of a path owes. Assumes nothing.
+-- What running one instruction of a path owes: any instruction, and an assignment. Assumes nothing.
 use mathlib.Core.Path.{_≡_}
 use mathlib.Core.Bool.{Bool, true, false}
 use mathlib.Core.List.{List}
@@ -9,9 +9,8 @@ use Rattle.model.specs.Policy.{Policy}
 use Rattle.model.specs.Package.{mostInstructions}
 use Rattle.model.specs.Annotation.{annotationAt}
 use Rattle.model.specs.Routine.{Routine}
-use Rattle.model.specs.Goals.{Path as ModelPath, Trace, append, Move, assign, landing, tracing, onward, loading}
+use Rattle.model.specs.Goals.{Path as ModelPath, Trace, append, Move, assign, landing, tracing}
 use Rattle.model.specs.Verdict.{leastWorkspace, refusing, judge}
-use Rattle.model.specs.declared.Region.{Region}
 use Rattle.model.specs.declared.Verdict.{Verdict}
 use Rattle.model.specs.declared.Refusal.the-variants.{LargeTerm}
 use Rattle.workspace.specs.Layout.{mostAssumptions, mostTableNodes, Same, mostVariables}
@@ -94,14 +93,3 @@ Anywhere policy routine = Unit {0}
 
 pub record Assigns (ws us : List ℕ) (path : Path) (d : ℕ) (t : Term) (p : Progress) (r : Moved) : Type 0 where
   pub moves : (bytes : List ℕ) (credit : Term) → Reached bytes p → Moves ws us bytes Anywhere credit (λ _ _. assign (pathOf ws path) d t) path p r
-
--- an access goes by the policy's regions alone
-pub record Accesses (ws us bytes : List ℕ) (regions : List Region) (m : Move) (path : Path) (p : Progress) (r : Moved) : Type 0 where
-  pub moves : (credit : Term) → Moves ws us bytes (λ policy _. policy .regions ≡ regions) credit (λ _ _. m) path p r
-
--- a register takes the next variable
-pub record Loads (ws us : List ℕ) (path : Path) (d : ℕ) (p : Progress) (r : Moved) : Type 0 where
-  pub goes-on : r .answer ≡ On p
-  pub means : pathOf us (r .path) ≡ onward (loading (pathOf ws path) d)
-  pub advanced : Advanced us path (r .path)
-  pub same : Same 0 (place (path .top)) ws us

@@ -1,5 +1,4 @@
-// What one instruction does to a path of a block: assignments and accesses.
-pub mod accesses;
+// What comes of one instruction on a path of a block, as types; and the instructions that assign.
 pub mod assignments;
 
 use goals::Progress;

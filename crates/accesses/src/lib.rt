@@ -1,11 +1,11 @@
-// Loads and stores: the address is a term above the path's top, forgotten once its goal is derived.
-use crate::Moved;
-use crate::MovedAnswer;
-use crate::assignments;
+// What a load or a store does to a path of a block: the address is a term above the path's top, forgotten once its goal is derived.
 use claims::Claim;
 use goals;
 use goals::Judged;
 use goals::Progress;
+use moves::Moved;
+use moves::MovedAnswer;
+use moves::assignments;
 use paths::Path;
 ghost use mathlib.Core.List.{[], _∷_};
 ghost use Prim.Native.Nat.{_<_};
@@ -14,7 +14,8 @@ ghost use Rattle.model.specs.Expression.{registerCount};
 ghost use Rattle.claims.specs.Regions.{regionsOf, RegionWords};
 ghost use Rattle.goals.specs.Judging.{Reached};
 ghost use Rattle.paths.specs.Walking.{pathOf};
-ghost use Rattle.moves.specs.Moves.{RoomFor, Accesses, Loads};
+ghost use Rattle.moves.specs.Moves.{RoomFor};
+ghost use Rattle.accesses.specs.Accesses.{Accesses, Loads};
 
 // Register d is the next variable.
 fn loaded(ws: &mut [u32], path: Path, d: u8, progress: Progress) -> Moved

@@ -1,10 +1,11 @@
+-- `accesses::store` meets its contract: what the goal and the step ask, and its two ways out. Assumes nothing.
 use native.Mathlib.Omega.{arith}
 use borrow.Author.Needs.{needs}
 use mathlib.Core.Path.{_∙_}
 use Rattle.model.specs.Goals.{writable}
-use Rattle.moves.proofs.Accessing.{address-going, address-in, store-goes, access-refused}
-use Rattle.moves.proofs.accesses.store.Statement.{statement}
-use Rattle.moves.proofs.accesses.store.Tie as tie
+use Rattle.accesses.proofs.Accessing.{address-going, address-in, store-goes, access-refused}
+use Rattle.accesses.proofs.store.Statement.{statement}
+use Rattle.accesses.proofs.store.Tie as tie
 
 goal-requires : tie.Need-goal-requires
 goal-requires c κs = let n = address-in (c .before .before .before .before .put-with .ensures) (c .before .raised .ensures) in (address-going (c .before .before .before .before .before .before .before .before .before .pre .1 .1 .0) (c .before .before .before .before .before .before .before .before .before .pre .1 .0) (c .before .before .before .before .before .before .before .before .before .pre .1 .1 .1) (c .before .before .before .before .put-with .kept .0) (c .before .before .before .before .put-with .ensures) (omega arith) (c .before .raised .ensures), record { below = n .below; bound = n .bound })

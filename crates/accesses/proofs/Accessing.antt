@@ -18,18 +18,19 @@ use Rattle.paths.specs.declared.Path.{Path}
 use Rattle.goals.specs.declared.Progress.{Progress}
 use Rattle.goals.specs.declared.Judged.{Judged}
 use Rattle.goals.specs.declared.Judged.the-variants.{Next as Judged-on, Refused as Judged-refused}
 use Rattle.moves.specs.declared.Moved.{Moved}
 use Rattle.moves.specs.declared.MovedAnswer.the-variants.{On, Refused}
 use Rattle.goals.specs.Judging.{Reached, ReachedAfter, Judges}
 use Rattle.paths.specs.Walking.{pathOf, raisedTo, NodeIn, PathIn, steppedTo, writtenTo, oneVariable, Kept}
 use Rattle.goals.specs.Room.{Going, derivationRoom}
 use Rattle.claims.specs.Regions.{RegionWords}
 use Rattle.goals.specs.Settling.{Left, GoalJudged}
-use Rattle.moves.specs.Moves.{RoomFor, Built, Advanced, MoveJudged, Accesses, Loads}
+use Rattle.moves.specs.Moves.{RoomFor, Built, Advanced, MoveJudged}
+use Rattle.accesses.specs.Accesses.{Accesses, Loads}
 use Rattle.moves.proofs.Moving.{move-on, move-stopped}
 use Rattle.paths.proofs.Kept.{kept-none, kept-same, kept-then, path-held, path-equal}
 use Rattle.paths.proofs.Walking.{path-raised}
 use Rattle.moves.proofs.PathLaws.{path-written, written-path, path-stepped, path-variable}
 
 -- ---- the next variable
 variable-bound : (v : ℕ) → variableBound (variable v) ≤ v + 1

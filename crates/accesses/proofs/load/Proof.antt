@@ -1,11 +1,12 @@
+-- `accesses::load` meets its contract: what the goal and the new variable ask, and its two ways out. Assumes nothing.
 use native.Mathlib.Omega.{arith}
 use borrow.Author.Needs.{needs}
 use mathlib.Core.Path.{_∙_}
 use Rattle.model.specs.Goals.{readable}
 use Rattle.moves.proofs.PathLaws.{room-kept}
-use Rattle.moves.proofs.Accessing.{address-going, address-in, kept-address, load-goes, access-refused}
-use Rattle.moves.proofs.accesses.load.Statement.{statement}
-use Rattle.moves.proofs.accesses.load.Tie as tie
+use Rattle.accesses.proofs.Accessing.{address-going, address-in, kept-address, load-goes, access-refused}
+use Rattle.accesses.proofs.load.Statement.{statement}
+use Rattle.accesses.proofs.load.Tie as tie
 
 goal-requires : tie.Need-goal-requires
 goal-requires c κs = let n = address-in (c .before .before .before .before .put-with .ensures) (c .before .raised .ensures) in (address-going (c .before .before .before .before .before .before .before .before .before .pre .1 .1 .0) (c .before .before .before .before .before .before .before .before .before .pre .1 .0) (c .before .before .before .before .before .before .before .before .before .pre .1 .1 .1) (c .before .before .before .before .put-with .kept .0) (c .before .before .before .before .put-with .ensures) (omega arith) (c .before .raised .ensures), record { below = n .below; bound = n .bound })

@@ -1,9 +1,10 @@
+-- `accesses::loaded` meets its contract: what the new node and each change of the path ask, and its one way out. Assumes nothing.
 use native.Mathlib.Omega.{arith}
 use borrow.Author.Needs.{needs}
 use Rattle.moves.proofs.Assigning.{first-room}
-use Rattle.moves.proofs.Accessing.{variable-loads}
-use Rattle.moves.proofs.accesses.loaded.Statement.{statement}
-use Rattle.moves.proofs.accesses.loaded.Tie as tie
+use Rattle.accesses.proofs.Accessing.{variable-loads}
+use Rattle.accesses.proofs.loaded.Statement.{statement}
+use Rattle.accesses.proofs.loaded.Tie as tie
 
 put-variable-requires : tie.Need-put-variable-requires
 put-variable-requires c κs = (first-room (c .before .before .before .pre .1) .0, (first-room (c .before .before .before .pre .1) .1, omega (arith, c .before .before .before .pre .1 .loaded)))
