@@ -1,4 +1,3 @@
--- `accesses::load` meets its contract: what the goal and the new variable ask, and its two ways out. Assumes nothing.
 use native.Mathlib.Omega.{arith}
 use borrow.Author.Needs.{needs}
 use mathlib.Core.Path.{_∙_}

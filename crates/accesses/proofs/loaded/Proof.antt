@@ -1,4 +1,3 @@
--- `accesses::loaded` meets its contract: what the new node and each change of the path ask, and its one way out. Assumes nothing.
 use native.Mathlib.Omega.{arith}
 use borrow.Author.Needs.{needs}
 use Rattle.moves.proofs.Assigning.{first-room}
