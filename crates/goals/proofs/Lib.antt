@@ -1,4 +1,3 @@
 pub mod Judging
 pub mod Room
 pub mod Settling
-pub mod Arriving

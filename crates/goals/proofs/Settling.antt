@@ -1,4 +1,4 @@
--- Laws of the functions that derive goals: one for each way out. Assumes nothing.
+-- Laws of the functions that derive one goal and the goals of atoms, one for each way out, and of a path with more nodes in the table. Assumes nothing.
 use mathlib.Core.Path.{_≡_, refl, sym, ap, subst, _∙_}
 use mathlib.Core.Logic.{_⊎_, _≢_}
 use mathlib.Core.List.{List, _∷_, map}

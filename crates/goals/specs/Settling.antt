@@ -1,15 +1,12 @@
--- What the functions that derive goals owe. Assumes nothing.
+-- What the functions that derive one goal and the goals of atoms owe. Assumes nothing.
 use mathlib.Core.Path.{_≡_}
 use mathlib.Core.List.{List, [], _∷_}
-use Prim.Native.Nat.{ℕ, _+_}
-use lib.ListN.{length, getD}
+use Prim.Native.Nat.{ℕ}
 use Rattle.model.specs.Result.{value}
-use Rattle.model.specs.Term.{Term, constant, difference}
-use Rattle.model.specs.Atom.{Atom, atMost}
+use Rattle.model.specs.Atom.{Atom}
 use Rattle.model.specs.Policy.{Policy}
-use Rattle.model.specs.Expression.{registerCount, expressionAt, atomsAt}
-use Rattle.model.specs.Annotation.{Annotation}
-use Rattle.model.specs.Goals.{Claim, atom, Path, goalOf, atomGoals, arrival, returning}
+use Rattle.model.specs.Expression.{registerCount, atomsAt}
+use Rattle.model.specs.Goals.{Claim, Path, goalOf, atomGoals}
 use Rattle.model.specs.declared.Region.{Region}
 use Rattle.workspace.specs.Layout.{Same}
 use Rattle.nodes.specs.Table.{place}
@@ -32,23 +29,4 @@ module _ (ws us bytes : List ℕ) (regions : List Region) (top : ℕ) (s : Path)
   pub record AtomsJudged (source : List ℕ) (end at number : ℕ) : Type 0 where
     pub judges : (policy : Policy) → policy .regions ≡ regions → (atoms : List Atom) (next : ℕ) → atomsAt source end registerCount number at ≡ value (atoms, next)
         → Judges bytes policy (atomGoals s atoms) p r
-    pub left : Left ws us bytes top r
-
-  -- the two goals on the credit: the steps at most the credit, and what is owed at most the rest
-  pub record CreditsJudged (credit owed : Term) : Type 0 where
-    pub judges : (policy : Policy) → policy .regions ≡ regions
-        → Judges bytes policy (goalOf s (atom (atMost (constant (s .steps)) credit)) ∷ goalOf s (atom (atMost owed (difference credit (constant (s .steps))))) ∷ []) p r
-    pub left : Left ws us bytes top r
-
-  -- the arrival at the annotation a that stands at a position: its atom count, its credit, its atoms
-  pub record ArrivalJudged (credit : Term) (end at : ℕ) : Type 0 where
-    pub judges : (policy : Policy) → policy .regions ≡ regions → (a : Annotation) (q next : ℕ)
-        → expressionAt bytes end registerCount (at + 3) ≡ value (a .credit, q) → atomsAt bytes end registerCount (getD bytes (at + 2) 0) q ≡ value (a .atoms, next)
-        → Judges bytes policy (arrival s credit a) p r
-    pub left : Left ws us bytes top r
-
-  -- a return, the atoms of the postcondition standing in the policy, so many from a position on
-  pub record ReturnJudged (credit : Term) (policyBytes : List ℕ) (at number : ℕ) : Type 0 where
-    pub judges : (policy : Policy) → policy .regions ≡ regions → (atoms : List Atom) (next : ℕ) → atomsAt policyBytes (length policyBytes) registerCount number at ≡ value (atoms, next)
-        → Judges bytes policy (returning s credit atoms) p r
     pub left : Left ws us bytes top r

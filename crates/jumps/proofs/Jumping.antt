@@ -34,7 +34,7 @@ use Rattle.claims.specs.Regions.{regionsOf, RegionWords}
 use Rattle.goals.specs.Judging.{Reached, ReachedAfter, Judges}
 use Rattle.paths.specs.Walking.{pathOf, NodeIn, PathIn, steppedTo, Kept}
 use Rattle.goals.specs.Room.{goalRoom, Going}
-use Rattle.goals.specs.Settling.{ArrivalJudged, ReturnJudged}
+use Rattle.arrivals.specs.Arriving.{ArrivalJudged, ReturnJudged}
 use Rattle.blocks.specs.Starting.{assumedPath, Assumed}
 use Rattle.paths.specs.declared.Path.{Path}
 use Rattle.goals.specs.declared.Progress.{Progress}

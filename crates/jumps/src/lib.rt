@@ -1,8 +1,8 @@
 // What a jump, a branch or a return does to a path of a block, and arrivals at annotations.
 pub mod regions;
 
+use arrivals;
 use assumptions::Assumption;
-use goals;
 use goals::Judged;
 use goals::Progress;
 use model::Comparison;
@@ -68,7 +68,7 @@ pub fn arrive(
     };
     let at = fields::wide(places[k]);
     let policy = setting.policy;
-    let judged = goals::arrival(
+    let judged = arrivals::arrival(
         bytes,
         setting.end,
         at,
@@ -248,7 +248,7 @@ pub fn return_from(
     requires { ⌜ Reached (now bytes) progress ⌝ }
     ensures { λ r. ⌜ Moves (now (ws .entry)) (now (ws .exit)) (now (bytes .entry)) (λ policy routine. (policy .regions ≡ regionsOf (now (regions .entry)) count) × ((next : ℕ) × (atomsAt (now (conditions .entry)) (length (now (conditions .entry))) registerCount number at ≡ value (policy .postcondition, next)))) (termAt (now (ws .entry)) credit) (λ policy routine. ends (returning (pathOf (now (ws .entry)) path) (termAt (now (ws .entry)) credit) (policy .postcondition))) path progress r ⌝ }
 {
-    let judged = goals::returning(
+    let judged = arrivals::returning(
         conditions,
         at,
         number,

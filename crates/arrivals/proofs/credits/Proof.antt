@@ -1,7 +1,7 @@
 use borrow.Author.Needs.{needs}
-use Rattle.goals.proofs.credits.Statement.{statement}
-use Rattle.goals.proofs.credits.Tie as tie
-use Rattle.goals.proofs.Arriving.{put-asks, difference-asks, first-asks, credits-stopped, second-asks, credits-judged}
+use Rattle.arrivals.proofs.credits.Statement.{statement}
+use Rattle.arrivals.proofs.credits.Tie as tie
+use Rattle.arrivals.proofs.Arriving.{put-asks, difference-asks, first-asks, credits-stopped, second-asks, credits-judged}
 
 put-constant-requires : tie.Need-put-constant-requires
 put-constant-requires c κs = put-asks (c .before .before .before .before .before .pre .0) (c .before .before .before .before .before .pre .1 .0)

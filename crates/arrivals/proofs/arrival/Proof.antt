@@ -1,10 +1,10 @@
 use Rattle.paths.proofs.Walking.{path-ready}
-use Rattle.goals.proofs.Arriving.{arrival-unread, arrival-asks, arrival-stopped, owed-asks, arrival-judged}
+use Rattle.arrivals.proofs.Arriving.{arrival-unread, arrival-asks, arrival-stopped, owed-asks, arrival-judged}
 use native.Mathlib.Omega.{arith}
 use borrow.Author.Needs.{needs}
 use Rattle.model.specs.Expression.{mostNodes}
-use Rattle.goals.proofs.arrival.Statement.{statement}
-use Rattle.goals.proofs.arrival.Tie as tie
+use Rattle.arrivals.proofs.arrival.Statement.{statement}
+use Rattle.arrivals.proofs.arrival.Tie as tie
 
 expression-requires : tie.Need-expression-requires
 expression-requires c κs = ((c .before .before .before .before .before .pre .0 .0, omega arith), path-ready mostNodes (omega arith) (c .before .before .before .before .before .pre .1 .0 .inside) (c .before .before .before .before .before .pre .1 .0 .space))

@@ -1,10 +1,10 @@
 use native.Mathlib.Omega.{arith}
 use borrow.Author.Needs.{needs}
-use Rattle.goals.proofs.returning.Statement.{statement}
-use Rattle.goals.proofs.returning.Tie as tie
+use Rattle.arrivals.proofs.returning.Statement.{statement}
+use Rattle.arrivals.proofs.returning.Tie as tie
 use Rattle.goals.specs.Room.{atomRoom}
 use Rattle.goals.proofs.Room.{going-fewer}
-use Rattle.goals.proofs.Arriving.{put-asks, covers-asks, covers, returning-stopped, returning-asks, returning-judged}
+use Rattle.arrivals.proofs.Arriving.{put-asks, covers-asks, covers, returning-stopped, returning-asks, returning-judged}
 
 atoms-requires : tie.Need-atoms-requires
 atoms-requires c κs = (omega arith, going-fewer atomRoom (omega arith) (c .before .before .before .before .before .pre .0))

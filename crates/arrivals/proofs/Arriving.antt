@@ -26,18 +26,19 @@ use Rattle.claims.specs.Parts.{claimOf}
 use Rattle.claims.specs.Regions.{regionsOf}
 use Rattle.claims.specs.declared.Claim.the-variants.{Atom as AtomClaim}
 use Rattle.paths.specs.declared.Path.{Path}
 use Rattle.goals.specs.declared.Progress.{Progress}
 use Rattle.goals.specs.declared.Judged.{Judged}
 use Rattle.goals.specs.declared.Judged.the-variants.{Next, Refused}
 use Rattle.paths.specs.Walking.{pathOf, raisedTo, NodeIn, ClaimIn}
 use Rattle.goals.specs.Room.{Going, derivationRoom, atomRoom, creditRoom, goalRoom}
-use Rattle.goals.specs.Settling.{Left, GoalJudged, AtomsJudged, CreditsJudged, ArrivalJudged, ReturnJudged}
+use Rattle.goals.specs.Settling.{Left, GoalJudged, AtomsJudged}
+use Rattle.arrivals.specs.Arriving.{CreditsJudged, ArrivalJudged, ReturnJudged}
 use Rattle.paths.proofs.Reading.{same-value}
 use Rattle.goals.proofs.Judging.{judges-stopped, judges-both, reached-next}
 use Rattle.paths.proofs.Walking.{node-same, node-kept, path-same, node-raised, Above, above-put, above-more, above-kept}
 use Rattle.goals.proofs.Room.{going-kept, going-above, going-fewer}
 use Rattle.paths.proofs.Found.{TermFound, term-found, no-term}
 use Rattle.goals.proofs.Settling.{left-below, of-path, raised-goal, raised-asks}
 
 -- ---- the goal that so many instructions are at most the credit
 module _ {ws words bytes : List ℕ} {count : ℕ} {path : Path} {p : Progress} {credit : ℕ} (y : Going ws words bytes count creditRoom path p) (n : NodeIn ws path credit) where
