@@ -59,45 +59,40 @@ capped-suc a = go (decLt sizeCap a)
 module _ (m : ℕ) (t : Term) (e : low m ≡ factsOf t) where
   pub closed-bit : m / 8 % 2 ≡ bit (closed t)
   unfolding factsOf
-  closed-bit = omega (arith, e, tag-bound t, bit-bound (closed t), bit-bound (plain t))
+  closed-bit = omega (arith, e, tag-bound t, bit-bound (closed t), bit-bound (closed t && plain t), bit-bound (plain t))
 
-  pub plain-bit : m / 16 % 2 ≡ bit (plain t)
+  pub valued-bit : m / 16 % 2 ≡ bit (closed t && plain t)
   unfolding factsOf
-  plain-bit = omega (arith, e, tag-bound t, bit-bound (closed t), bit-bound (plain t))
+  valued-bit = omega (arith, e, tag-bound t, bit-bound (closed t), bit-bound (closed t && plain t), bit-bound (plain t))
 
-  pub size-in : low m / 32 ≡ capped (size t)
+  pub plain-bit : m / 32 % 2 ≡ bit (plain t)
   unfolding factsOf
-  size-in = omega (arith, e, tag-bound t, bit-bound (closed t), bit-bound (plain t))
+  plain-bit = omega (arith, e, tag-bound t, bit-bound (closed t), bit-bound (closed t && plain t), bit-bound (plain t))
 
-  pub size-most : (n : ℕ) → n < sizeCap → leb (low m / 32) n ≡ leb (size t) n
+  pub size-in : low m / 64 ≡ capped (size t)
+  unfolding factsOf
+  size-in = omega (arith, e, tag-bound t, bit-bound (closed t), bit-bound (closed t && plain t), bit-bound (plain t))
+
+  pub size-most : (n : ℕ) → n < sizeCap → leb (low m / 64) n ≡ leb (size t) n
   size-most n l = rw size-in (go (decLt n (size t)))
     where
       go : Dec (n < size t) → leb (capped (size t)) n ≡ leb (size t) n
       go (yes h) = rw (lt-leb (capped (size t)) n (omega arith), lt-leb (size t) n h)
       go (no h) = rw (le-leb (capped (size t)) n (omega arith), le-leb (size t) n (omega arith))
 
-  valued-bits : m / 8 % 4 ≡ bit (closed t) + 2 * bit (plain t)
-  valued-bits = omega (arith, closed-bit, plain-bit)
-
 bit-is : (b : Bool) → eqb (bit b) 1 ≡ b
 bit-is true = refl
 bit-is false = refl
 
-bits-are : (a b : Bool) → eqb (bit a + 2 * bit b) 3 ≡ (a && b)
-bits-are true true = refl
-bits-are true false = refl
-bits-are false true = refl
-bits-are false false = refl
-
 module _ {ws : List ℕ} {i : ℕ} (k : Marked ws i) where
   pub tag-at : marksAt ws i % 8 ≡ rootOf (termAt ws i) .tag
   unfolding factsOf
-  tag-at = omega (arith, k .facts, tag-bound (termAt ws i), bit-bound (closed (termAt ws i)), bit-bound (plain (termAt ws i)))
+  tag-at = omega (arith, k .facts, tag-bound (termAt ws i), bit-bound (closed (termAt ws i)), bit-bound (closed (termAt ws i) && plain (termAt ws i)), bit-bound (plain (termAt ws i)))
 
   pub valued-at : valuedAt ws i ≡ (closed (termAt ws i) && plain (termAt ws i))
-  valued-at = rw (valued-bits (marksAt ws i) (termAt ws i) (k .facts)) (bits-are (closed (termAt ws i)) (plain (termAt ws i)))
+  valued-at = rw (valued-bit (marksAt ws i) (termAt ws i) (k .facts)) (bit-is (closed (termAt ws i) && plain (termAt ws i)))
 
-  pub plain-at : eqb (marksAt ws i / 16 % 2) 1 ≡ plain (termAt ws i)
+  pub plain-at : eqb (marksAt ws i / 32 % 2) 1 ≡ plain (termAt ws i)
   plain-at = rw (plain-bit (marksAt ws i) (termAt ws i) (k .facts)) (bit-is (plain (termAt ws i)))
 
   pub closed-at : eqb (marksAt ws i / 8 % 2) 1 ≡ closed (termAt ws i)

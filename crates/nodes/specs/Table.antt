@@ -37,7 +37,7 @@ marksAt ws i = getD ws (place i + 2) 0
 
 -- whether node i holds a value, by its marks: it is closed and plain
 abbrev pub valuedAt : List ℕ → ℕ → Bool
-valuedAt ws i = eqb (marksAt ws i / 8 % 4) 3
+valuedAt ws i = eqb (marksAt ws i / 16 % 2) 1
 
 -- the node that a tag, parts and a value say
 abbrev pub nodeOfTag : (tag parts value : ℕ) → Node
@@ -108,9 +108,9 @@ sizeCap = mostTermNodes + 1
 abbrev pub capped : ℕ → ℕ
 capped n = sizeCap - (sizeCap - n)
 
--- the facts of a term: its tag, whether it is closed, whether it is plain, and its size
+-- the facts of a term: its tag, whether it is closed, whether it is so and plain, whether it is plain, and its size
 unfoldable pub factsOf : Term → ℕ
-factsOf t = rootOf t .tag + 8 * bit (closed t) + 16 * bit (plain t) + 32 * capped (size t)
+factsOf t = rootOf t .tag + 8 * bit (closed t) + 16 * bit (closed t && plain t) + 32 * bit (plain t) + 64 * capped (size t)
 
 -- the value of a closed term that is plain; 0 for others
 unfoldable pub valueOf : Term → ℕ

@@ -100,26 +100,33 @@ pub fn is_closed(marks: u32) -> u32
     marks / 8 % 2
 }
 
-// 1 for the marks of a plain term, in which no mask or shift stands, 0 for others.
-pub fn is_plain(marks: u32) -> u32
+// 1 for the marks of a node that holds a value, 0 for others.
+pub fn is_valued(marks: u32) -> u32
     ensures { λ r. ⌜ (r ≡ marks / 16 % 2) × (r < 2) ⌝ }
 {
     marks / 16 % 2
 }
 
-// The size in marks: the cap if it is more.
-pub fn size(marks: u32) -> u32
-    ensures { λ r. ⌜ (r ≡ lowOf marks / 32) × (r < 2048) ⌝ }
+// 1 for the marks of a plain term, in which no mask or shift stands, 0 for others.
+pub fn is_plain(marks: u32) -> u32
+    ensures { λ r. ⌜ (r ≡ marks / 32 % 2) × (r < 2) ⌝ }
 {
-    low(marks) / 32
+    marks / 32 % 2
 }
 
-// Whether node i holds a value: its term is closed and plain, by its marks.
+// The size in marks: the cap if it is more.
+pub fn size(marks: u32) -> u32
+    ensures { λ r. ⌜ (r ≡ lowOf marks / 64) × (r < 1024) ⌝ }
+{
+    low(marks) / 64
+}
+
+// Whether node i holds a value: its term is closed and plain.
 pub fn holds_value(ws: &[u32], i: usize) -> bool
     requires { ⌜ place (suc i) ≤ length (now ws) ⌝ }
     ensures { λ r. ⌜ r ≡ valuedAt (now (ws .entry)) i ⌝ }
 {
-    marks(ws, i) / 8 % 4 == 3
+    is_valued(marks(ws, i)) == 1
 }
 
 // Node i, in words that need not be a table.

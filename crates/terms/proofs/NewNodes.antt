@@ -1,5 +1,5 @@
 -- Laws of new nodes: their facts and values, and the functions that put them, one for each way out. Assumes nothing.
-use mathlib.Core.Path.{_≡_, refl, sym, ap, subst, _∙_}
+use mathlib.Core.Path.{_≡_, refl, sym, ap, ap₂, subst, _∙_}
 use mathlib.Core.Logic.{inl, inr, _≢_}
 use mathlib.Core.Bool.{Bool, true, false, _&&_, and-false}
 use mathlib.Core.List.{List}
@@ -16,21 +16,21 @@ use Rattle.workspace.specs.Layout.{mostVariables, hintBase, Same}
 use Rattle.nodes.specs.Table.{low, high, partsAt, valueAt, marksAt, valuedAt, nodeOfTag, viewOf, build, operationOf, termAt, termOf, plain, pairValue, bit, capped, factsOf, valueOf, InOrder, Marked, Formed, Put, Fits, Twinned}
 use Rattle.nodes.specs.declared.Node.the-variants.{Shift}
 use Rattle.workspace.proofs.Frames.{same-refl, set-before}
-use Rattle.nodes.proofs.Facts.{bit-both, capped-sum, capped-suc, closed-bit, plain-bit, size-in, valued-at, kept-value, no-value, value-is-kept, pair-eval}
+use Rattle.nodes.proofs.Facts.{bit-both, capped-sum, capped-suc, closed-bit, valued-bit, plain-bit, size-in, valued-at, kept-value, no-value, value-is-kept, pair-eval}
 use Rattle.nodes.proofs.Table.{at-operation, at-pair, pair-built, marks-here}
 
 -- ---- a pair's facts and value, by those of its parts
 module _ (s t : Term) where
-  pair-facts : (tag : ℕ) → (1 < tag) × (tag < 5) → factsOf (operationOf tag s t) ≡ tag + 8 * (bit (closed s) * bit (closed t)) + 16 * bit (plain (operationOf tag s t)) + 32 * capped (capped (size s) + capped (size t) + 1)
+  pair-facts : (tag : ℕ) → (1 < tag) × (tag < 5) → factsOf (operationOf tag s t) ≡ tag + 8 * (bit (closed s) * bit (closed t)) + 16 * bit (closed (operationOf tag s t) && plain (operationOf tag s t)) + 32 * bit (plain (operationOf tag s t)) + 64 * capped (capped (size s) + capped (size t) + 1)
   unfolding factsOf closed size
-  pair-facts tag = at-pair (λ tag. factsOf (operationOf tag s t) ≡ tag + 8 * (bit (closed s) * bit (closed t)) + 16 * bit (plain (operationOf tag s t)) + 32 * capped (capped (size s) + capped (size t) + 1)) (joined 2 (bit (plain (sum s t)))) (joined 3 (bit (plain (difference s t)))) (joined 4 (bit (plain (mask s t)))) tag
+  pair-facts tag = at-pair (λ tag. factsOf (operationOf tag s t) ≡ tag + 8 * (bit (closed s) * bit (closed t)) + 16 * bit (closed (operationOf tag s t) && plain (operationOf tag s t)) + 32 * bit (plain (operationOf tag s t)) + 64 * capped (capped (size s) + capped (size t) + 1)) (joined 2 (plain (sum s t))) (joined 3 (plain (difference s t))) (joined 4 (plain (mask s t))) tag
     where
-      joined : (n p : ℕ) → n + 8 * bit (closed s && closed t) + 16 * p + 32 * capped (size s + size t + 1) ≡ n + 8 * (bit (closed s) * bit (closed t)) + 16 * p + 32 * capped (capped (size s) + capped (size t) + 1)
-      joined n p = rw (bit-both (closed s) (closed t), capped-sum (size s) (size t))
+      joined : (n : ℕ) (p : Bool) → n + 8 * bit (closed s && closed t) + 16 * bit (closed s && closed t && p) + 32 * bit p + 64 * capped (size s + size t + 1) ≡ n + 8 * (bit (closed s) * bit (closed t)) + 16 * bit (closed s && closed t && p) + 32 * bit p + 64 * capped (capped (size s) + capped (size t) + 1)
+      joined n p = ap₂ (λ x y. n + 8 * x + 16 * bit (closed s && closed t && p) + 32 * bit p + 64 * y) (bit-both (closed s) (closed t)) (capped-sum (size s) (size t))
 
-  shift-facts : (count : ℕ) → factsOf (shift count s) ≡ 5 + 8 * bit (closed s) + 32 * capped (capped (size s) + 1)
+  shift-facts : (count : ℕ) → factsOf (shift count s) ≡ 5 + 8 * bit (closed s) + 64 * capped (capped (size s) + 1)
   unfolding factsOf closed plain size
-  shift-facts count = rw (capped-suc (size s)) (omega arith)
+  shift-facts count = rw (and-false (closed s), capped-suc (size s)) (omega arith)
 
   -- a sum or a difference holds a value where both its parts do
   and-swap : (a b c d : Bool) → ((a && b) && (c && d)) ≡ ((a && c) && (b && d))
@@ -61,32 +61,43 @@ mask-value tag a b {r} = at-operation (λ tag. tag ≢ 2 → tag ≢ 3 → r ≡
 
 -- ---- the words of a new node
 module _ (ws : List ℕ) (top : ℕ) where
-  pub fits-constant : {v : ℕ} → v < 2 ^ 32 → Fits ws top 0 v 56
+  pub fits-constant : {v : ℕ} → v < 2 ^ 32 → Fits ws top 0 v 120
   unfolding factsOf valueOf closed plain eval size
   fits-constant h = record { order = tt; facts-are = refl; value-is = omega arith }
 
-  pub fits-variable : {v : ℕ} → v < mostVariables → Fits ws top v 0 49
+  pub fits-variable : {v : ℕ} → v < mostVariables → Fits ws top v 0 97
   unfolding factsOf valueOf closed plain size
   fits-variable h = record { order = h; facts-are = refl; value-is = omega arith }
 
--- whether a pair of nodes is plain, by their marks a and b
-module _ {ws : List ℕ} {top tag left right : ℕ} (f : Formed ws top) (i : (left < top) × (right < top)) where
-  pub both-plain : {a b x y : ℕ} → (1 < tag) × (tag < 4) → a ≡ marksAt ws left → b ≡ marksAt ws right → x ≡ a / 16 % 2 → y ≡ b / 16 % 2 → x * y ≡ bit (plain (operationOf tag (termAt ws left) (termAt ws right)))
-  both-plain h ea eb ex ey =
+-- whether a pair of nodes is plain and holds a value, by their marks a and b
+module _ {ws : List ℕ} {top tag left right : ℕ} (f : Formed ws top) (i : (left < top) × (right < top)) {a b x y : ℕ} (h : (1 < tag) × (tag < 4)) (ea : a ≡ marksAt ws left) (eb : b ≡ marksAt ws right) where
+  pub both-plain : x ≡ a / 32 % 2 → y ≡ b / 32 % 2 → x * y ≡ bit (plain (operationOf tag (termAt ws left) (termAt ws right)))
+  both-plain ex ey =
       rw (ex, ey, ea, eb, plain-bit (marksAt ws left) (termAt ws left) (f .shaped .marked left (i .0) .facts), plain-bit (marksAt ws right) (termAt ws right) (f .shaped .marked right (i .1) .facts))
       (sym (pair-plain (termAt ws left) (termAt ws right) tag h))
+
+  pub both-valued : x ≡ a / 16 % 2 → y ≡ b / 16 % 2 → x * y ≡ bit (closed (operationOf tag (termAt ws left) (termAt ws right)) && plain (operationOf tag (termAt ws left) (termAt ws right)))
+  both-valued ex ey =
+      rw (ex, ey, ea, eb, valued-bit (marksAt ws left) (termAt ws left) (f .shaped .marked left (i .0) .facts), valued-bit (marksAt ws right) (termAt ws right) (f .shaped .marked right (i .1) .facts))
+      (sym (ap bit (pair-valued (termAt ws left) (termAt ws right) tag h) ∙ bit-both (closed (termAt ws left) && plain (termAt ws left)) (closed (termAt ws right) && plain (termAt ws right))))
 
 -- a mask is not plain, and has no value
 pub mask-bit : (s t : Term) (tag : ℕ) → 4 ≤ tag → 0 ≡ bit (plain (operationOf tag s t))
 mask-bit s t tag h = rw (mask-plain s t tag h)
 
+mask-open : (s t : Term) (tag : ℕ) → 4 ≤ tag → (closed (operationOf tag s t) && plain (operationOf tag s t)) ≡ false
+mask-open s t tag h = rw (mask-plain s t tag h) (and-false (closed (operationOf tag s t)))
+
+pub mask-unvalued : (s t : Term) (tag : ℕ) → 4 ≤ tag → 0 ≡ bit (closed (operationOf tag s t) && plain (operationOf tag s t))
+mask-unvalued s t tag h = rw (mask-open s t tag h)
+
 pub mask-no-value : (s t : Term) (tag : ℕ) → 4 ≤ tag → 0 ≡ valueOf (operationOf tag s t)
-mask-no-value s t tag h = sym (no-value (operationOf tag s t) false (rw (mask-plain s t tag h) (and-false (closed (operationOf tag s t)))) refl)
+mask-no-value s t tag h = sym (no-value (operationOf tag s t) false (mask-open s t tag h) refl)
 
 -- a pair of nodes: a and b are their marks, x and y the nodes that stand for their terms
-module _ {ws : List ℕ} {top tag left right : ℕ} (f : Formed ws top) (h : (1 < tag) × (tag < 5)) (i : (left < top) × (right < top)) {a b x y plainness value facts : ℕ}
+module _ {ws : List ℕ} {top tag left right : ℕ} (f : Formed ws top) (h : (1 < tag) × (tag < 5)) (i : (left < top) × (right < top)) {a b x y valued plainness value facts : ℕ}
     (ea : a ≡ marksAt ws left) (eb : b ≡ marksAt ws right) (ex : (x ≡ high a) × (x < 65536)) (ey : (y ≡ high b) × (y < 65536))
-    (v : value ≡ valueOf (operationOf tag (termAt ws left) (termAt ws right))) (l : plainness ≡ bit (plain (operationOf tag (termAt ws left) (termAt ws right)))) (e : facts ≡ tag + 8 * ((a / 8 % 2) * (b / 8 % 2)) + 16 * plainness + 32 * capped (low a / 32 + low b / 32 + 1)) where
+    (v : value ≡ valueOf (operationOf tag (termAt ws left) (termAt ws right))) (k : valued ≡ bit (closed (operationOf tag (termAt ws left) (termAt ws right)) && plain (operationOf tag (termAt ws left) (termAt ws right)))) (l : plainness ≡ bit (plain (operationOf tag (termAt ws left) (termAt ws right)))) (e : facts ≡ tag + 8 * ((a / 8 % 2) * (b / 8 % 2)) + 16 * valued + 32 * plainness + 64 * capped (low a / 64 + low b / 64 + 1)) where
   abbrev parts : ℕ
   parts = x + 65536 * y
 
@@ -105,7 +116,7 @@ module _ {ws : List ℕ} {top tag left right : ℕ} (f : Formed ws top) (h : (1 
   joined-facts : facts ≡ factsOf (operationOf tag (termAt ws left) (termAt ws right))
   joined-facts =
       e
-      ∙ rw (l, closed-bit a (termAt ws left) facts-left, closed-bit b (termAt ws right) facts-right, size-in a (termAt ws left) facts-left, size-in b (termAt ws right) facts-right)
+      ∙ rw (k, l, closed-bit a (termAt ws left) facts-left, closed-bit b (termAt ws right) facts-right, size-in a (termAt ws left) facts-left, size-in b (termAt ws right) facts-right)
       (sym (pair-facts (termAt ws left) (termAt ws right) tag h))
 
   tag-of : facts % 8 ≡ tag
@@ -131,7 +142,7 @@ module _ {ws : List ℕ} {top tag left right : ℕ} (f : Formed ws top) (h : (1 
 
 -- a shift of a node: a are its marks, x the node that stands for its term
 module _ {ws : List ℕ} {top count part : ℕ} (f : Formed ws top) (i : (count ≤ mostCount) × (part < top)) {a x c facts : ℕ}
-    (ea : a ≡ marksAt ws part) (ex : (x ≡ high a) × (x < 65536)) (ec : c ≡ count) (e : facts ≡ 5 + 8 * (a / 8 % 2) + 32 * capped (low a / 32 + 1)) where
+    (ea : a ≡ marksAt ws part) (ex : (x ≡ high a) × (x < 65536)) (ec : c ≡ count) (e : facts ≡ 5 + 8 * (a / 8 % 2) + 64 * capped (low a / 64 + 1)) where
   abbrev shiftParts : ℕ
   shiftParts = x + 65536 * c
 
@@ -172,17 +183,17 @@ module _ {ws : List ℕ} {left right : ℕ} (f : Formed ws (suc left)) (g : Form
   abbrev pairOf : Term
   pairOf = operationOf tag (termAt ws left) (termAt ws right)
 
-  both-valued : (1 < tag) × (tag < 4) → (closed pairOf && plain pairOf) ≡ (valuedAt ws left && valuedAt ws right)
-  both-valued h = rw (valued-at (marks-here (f .shaped)), valued-at (marks-here (g .shaped))) (pair-valued (termAt ws left) (termAt ws right) tag h)
+  value-by-both : (1 < tag) × (tag < 4) → (closed pairOf && plain pairOf) ≡ (valuedAt ws left && valuedAt ws right)
+  value-by-both h = rw (valued-at (marks-here (f .shaped)), valued-at (marks-here (g .shaped))) (pair-valued (termAt ws left) (termAt ws right) tag h)
 
   pub computed-pair : {x y r : ℕ} → (1 < tag) × (tag < 4) → valuedAt ws left ≡ true → valuedAt ws right ≡ true → x ≡ valueAt ws left → y ≡ valueAt ws right → r ≡ pairValue tag x y → r ≡ valueOf pairOf
   computed-pair h l m p q e =
       e
       ∙ rw (p, q, value-is-kept f l, value-is-kept g m) (sym (pair-eval tag (termAt ws left) (termAt ws right) (h .0)))
-      ∙ sym (kept-value pairOf (valuedAt ws left && valuedAt ws right) (both-valued h) (rw (l, m)))
+      ∙ sym (kept-value pairOf (valuedAt ws left && valuedAt ws right) (value-by-both h) (rw (l, m)))
 
   pub computed-none : (1 < tag) × (tag < 4) → (valuedAt ws left && valuedAt ws right) ≡ false → 0 ≡ valueOf pairOf
-  computed-none h o = sym (no-value pairOf (valuedAt ws left && valuedAt ws right) (both-valued h) o)
+  computed-none h o = sym (no-value pairOf (valuedAt ws left && valuedAt ws right) (value-by-both h) o)
 
 -- ---- the node for words
 module _ {ws : List ℕ} {top parts value facts : ℕ} where

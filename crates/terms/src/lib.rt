@@ -17,11 +17,11 @@ ghost use Rattle.nodes.specs.Table.{low as lowOf, partsAt, valueAt, marksAt, op
 // Sizes are kept up to this, one more than the nodes of a register's term.
 const SIZE_CAP: u32 = MOST_TERM_NODES + 1;
 
-// The facts of a constant: tag 0, closed, plain, one node.
-const CONSTANT: u32 = 56;
+// The facts of a constant: tag 0, closed, with a value, plain, one node.
+const CONSTANT: u32 = 120;
 
 // The facts of a variable: tag 1, not closed, plain, one node.
-const VARIABLE: u32 = 49;
+const VARIABLE: u32 = 97;
 
 // Stores three words at a place.
 fn store(ws: &mut [u32], at: usize, a: u32, b: u32, c: u32)
@@ -115,13 +115,13 @@ fn at_most_cap(size: u32) -> u32
     size
 }
 
-// The facts of a pair, by its tag, whether it is plain (1) or not (0), and the marks of its parts.
-fn joined(tag: u32, plain: u32, a: u32, b: u32) -> u32
-    requires { ⌜ (tag < 5) × (plain < 2) ⌝ }
-    ensures { λ r. ⌜ (r ≡ tag + 8 * ((a / 8 % 2) * (b / 8 % 2)) + 16 * plain + 32 * capped (lowOf a / 32 + lowOf b / 32 + 1)) × (r < 65536) ⌝ }
+// The facts of a pair, by its tag, whether it holds a value and is plain (1) or not (0), and the marks of its parts.
+fn joined(tag: u32, valued: u32, plain: u32, a: u32, b: u32) -> u32
+    requires { ⌜ (tag < 5) × (valued < 2) × (plain < 2) ⌝ }
+    ensures { λ r. ⌜ (r ≡ tag + 8 * ((a / 8 % 2) * (b / 8 % 2)) + 16 * valued + 32 * plain + 64 * capped (lowOf a / 64 + lowOf b / 64 + 1)) × (r < 65536) ⌝ }
 {
     let size = at_most_cap(nodes::size(a) + nodes::size(b) + 1);
-    tag + 8 * (nodes::is_closed(a) * nodes::is_closed(b)) + 16 * plain + 32 * size
+    tag + 8 * (nodes::is_closed(a) * nodes::is_closed(b)) + 16 * valued + 32 * plain + 64 * size
 }
 
 // The value of the sum, for tag 2, the difference, for tag 3, or the mask of two words.
@@ -162,11 +162,13 @@ pub fn put_pair(ws: &mut [u32], top: usize, tag: u32, left: usize, right: usize)
     let parts = nodes::high(a) + 65536 * nodes::high(b);
     if tag < 4 {
         let value = computed(ws, tag, left, right);
-        let facts = joined(tag, nodes::is_plain(a) * nodes::is_plain(b), a, b);
+        let valued = nodes::is_valued(a) * nodes::is_valued(b);
+        let plain = nodes::is_plain(a) * nodes::is_plain(b);
+        let facts = joined(tag, valued, plain, a, b);
         put(ws, top, parts as u32, value, facts);
         return;
     }
-    put(ws, top, parts as u32, 0, joined(tag, 0, a, b));
+    put(ws, top, parts as u32, 0, joined(tag, 0, 0, a, b));
 }
 
 // Puts the sum of two nodes at node top.
@@ -191,9 +193,9 @@ pub fn put_difference(ws: &mut [u32], top: usize, left: usize, right: usize)
 
 // The facts of a shift, tag 5, by the marks of its part.
 fn shifted(a: u32) -> u32
-    ensures { λ r. ⌜ (r ≡ 5 + 8 * (a / 8 % 2) + 32 * capped (lowOf a / 32 + 1)) × (r < 65536) ⌝ }
+    ensures { λ r. ⌜ (r ≡ 5 + 8 * (a / 8 % 2) + 64 * capped (lowOf a / 64 + 1)) × (r < 65536) ⌝ }
 {
-    5 + 8 * nodes::is_closed(a) + 32 * at_most_cap(nodes::size(a) + 1)
+    5 + 8 * nodes::is_closed(a) + 64 * at_most_cap(nodes::size(a) + 1)
 }
 
 // Puts a node shifted right at node top.

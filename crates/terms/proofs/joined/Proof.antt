@@ -19,6 +19,9 @@ add-result-2 c = omega (arith, bits-product _ _ (c .before .is-closed .ensures .
 add-result-3 : tie.Need-add-result-3
 add-result-3 c = omega (arith, bits-product _ _ (c .before .is-closed .ensures .1) (c .is-closed2 .ensures .1))
 
+add-result-4 : tie.Need-add-result-4
+add-result-4 c = omega (arith, bits-product _ _ (c .before .is-closed .ensures .1) (c .is-closed2 .ensures .1))
+
 returns : tie.Need-returns
 returns c = (rw (c .before .is-closed .ensures .0, c .is-closed2 .ensures .0, c .before .before .at-most-cap .ensures .0, c .before .before .before .before .size .ensures .0, c .before .before .before .size2 .ensures .0), omega (arith, bits-product _ _ (c .before .is-closed .ensures .1) (c .is-closed2 .ensures .1)))
 
@@ -40,4 +43,6 @@ joined-spec =
     add-result-2
     (λ c. search needs)
     add-result-3
+    (λ c. search needs)
+    add-result-4
     returns)
