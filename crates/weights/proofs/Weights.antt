@@ -116,7 +116,7 @@ module _ {ws us : List ℕ} {n m : ℕ} (g : Loaded ws us n m) where
     marks-kept = g .kept (place k + 2) (omega arith) (omega (arith, inside)) (λ j l o. omega arith)
 
     pub valued-kept : valuedAt us k ≡ valuedAt ws k
-    valued-kept = ap (λ x. eqb (x / 8 % 4) 3) marks-kept
+    valued-kept = ap (λ x. eqb (x / 16 % 2) 1) marks-kept
 
     pub value-kept : valuedAt ws k ≡ true → valueAt us k ≡ valueAt ws k
     value-kept c = g .kept (place k + 1) (omega arith) (omega (arith, inside)) (λ j l o e. let d : j ≡ k = omega arith in clash (rw d at o) c)
