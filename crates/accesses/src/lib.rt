@@ -1,4 +1,6 @@
 // What a load or a store does to a path of a block: the address is a term above the path's top, forgotten once its goal is derived.
+#![tactic(auto)]
+
 ghost use Rattle.std.specs.Prelude.{[], ◌∷◌, ◌<◌};
 ghost use Rattle.model.specs.Goals.{address_term, goal_of, readable, writable, goes, onward, loading};
 ghost use Rattle.model.specs.Expression.{register_count};

@@ -1,2 +1,4 @@
 // The annotations of a package.
+#![tactic(auto)]
+
 pub mod reading;

@@ -1,4 +1,6 @@
 // The rules of arithmetic: what each asks of a claim. New nodes stand from the table's top on, at most four of them.
+#![tactic(auto)]
+
 ghost use Rattle.model.specs.Rule.{congruence, linear, zero_at_most, successor_at_most, below_successor, sum_no_overflow};
 ghost use Rattle.nodes.specs.Table.{Formed, Space};
 ghost use Rattle.claims.specs.Parts.{claim_of, ClaimBelow};

@@ -1,4 +1,6 @@
 // Goals of a path at an annotation that is reached and at a return: atoms, and the credit. Each is derived at once.
+#![tactic(auto)]
+
 ghost use Rattle.std.specs.Prelude.{◌+◌, ◌≤◌, ◌<◌, length};
 ghost use Rattle.nodes.specs.Table.{term_at};
 ghost use Rattle.claims.specs.Regions.{regions_of};

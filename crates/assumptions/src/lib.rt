@@ -1,4 +1,6 @@
 // The assumptions of a path, kept in the lent workspace below the term table, one word each.
+#![tactic(auto)]
+
 ghost use Rattle.std.specs.Prelude.{◌≡◌, ◌≤◌, ◌<◌, length};
 ghost use Rattle.model.specs.Verdict.{least_workspace};
 ghost use Rattle.workspace.specs.Layout.{most_assumptions, most_table_nodes};

@@ -1,4 +1,6 @@
 // The reader that builds atoms in the term table: a comparison and its two expressions.
+#![tactic(auto)]
+
 ghost use Rattle.std.specs.Prelude.{◌≡◌, ◌≤◌, length};
 ghost use Rattle.workspace.specs.Layout.{most_variables};
 ghost use Rattle.leaf_reader.specs.Leaves.{Ready};

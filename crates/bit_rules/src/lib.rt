@@ -1,4 +1,6 @@
 // The rules of masks and shifts: what each asks of a claim. None has a premise, and none makes a new node.
+#![tactic(auto)]
+
 ghost use Rattle.model.specs.Rule.{mask_at_most, shift_at_most, shift_bounded};
 ghost use Rattle.nodes.specs.Table.{Formed};
 ghost use Rattle.claims.specs.Parts.{claim_of, ClaimBelow};

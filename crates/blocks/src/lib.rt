@@ -1,4 +1,6 @@
 // Where a block starts: its assumptions and its credit.
+#![tactic(auto)]
+
 ghost use Rattle.std.specs.Prelude.{◌+◌, ◌≤◌, ◌<◌, length, get_or};
 ghost use Rattle.model.specs.Verdict.{least_workspace};
 ghost use Rattle.model.specs.Expression.{register_count};

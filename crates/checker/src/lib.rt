@@ -1,4 +1,6 @@
 // The checker: checks 1 to 12, and then the routine's evaluation.
+#![tactic(auto)]
+
 ghost use Rattle.std.specs.Prelude.{◌≡◌, ◌≤◌, length};
 ghost use Rattle.model.specs.Verdict.{least_workspace, check_of, workspace_after};
 ghost use Rattle.model.specs.Routine.{read_routine};

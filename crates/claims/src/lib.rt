@@ -1,4 +1,6 @@
 // Claims, and what a rule asks of one: its plan.
+#![tactic(auto)]
+
 pub mod parts;
 pub mod plans;
 

@@ -1,4 +1,6 @@
 // Decoding: the instruction of an operation word's bytes and an immediate, and where it may jump.
+#![tactic(auto)]
+
 ghost use Rattle.std.specs.Prelude.{◌≡◌, ◌≤◌};
 ghost use Rattle.model.specs.Instruction.{decode, target_of, target_inside};
 ghost use Rattle.decoding.specs.Decoding.{decoded_of, target_option};

@@ -1,4 +1,6 @@
 // Derivations: the choice among the rules, and the checker of a derivation in prefix form.
+#![tactic(auto)]
+
 ghost use Rattle.model.specs.Derivation.{most_levels};
 ghost use Rattle.claims.specs.Parts.{claim_of};
 ghost use Rattle.claims.specs.Rule.{rule_of};

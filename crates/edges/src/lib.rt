@@ -1,5 +1,7 @@
 // Samples at the limits of packages and workspaces: each is built, judged by the checker, and printed with its answer. The buffers
 // are lent.
+#![tactic(auto)]
+
 use libc::STDOUT_FILENO;
 
 // Checks a package under a policy and prints the answer after the sample's name.

@@ -1,4 +1,6 @@
 // Symbolic evaluation of a routine: blocks in order, each goal derived as it arises.
+#![tactic(auto)]
+
 pub mod all_blocks;
 pub mod walks;
 

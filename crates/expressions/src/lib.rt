@@ -1,4 +1,6 @@
 // The readers of expressions and atoms that only find where they end. The bytes run to `end`, and variables are below `limit`.
+#![tactic(auto)]
+
 mod scanning;
 
 ghost use Rattle.std.specs.Prelude.{◌≤◌, max, length};

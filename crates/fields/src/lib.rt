@@ -1,4 +1,6 @@
 // Numbers in files, low byte first, and the operations on words.
+#![tactic(auto)]
+
 pub mod kinds;
 
 ghost use Rattle.std.specs.Prelude.{◌≡◌, ◌+◌, ◌<◌, ◌≤◌, length};

@@ -1,5 +1,7 @@
 // The words in which linear forms modulo 2^32 (rule 12) are reckoned, the workspace's first: word v for variable v, and one word for the
 // constant. They are all zero between uses. Small terms are walked as trees.
+#![tactic(auto)]
+
 ghost use Rattle.std.specs.Prelude.{◌≡◌, ◌≤◌, ◌<◌, length, get_or, set};
 ghost use Rattle.workspace.specs.Layout.{constant_word, area_words};
 ghost use Rattle.nodes.specs.Table.{term_at};

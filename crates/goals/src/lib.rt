@@ -1,4 +1,6 @@
 // One goal, and the goals of atoms: each is made, derived at once where the proof has been read to, counted and forgotten.
+#![tactic(auto)]
+
 ghost use Rattle.std.specs.Prelude.{◌≤◌, length};
 ghost use Rattle.claims.specs.Parts.{claim_of};
 ghost use Rattle.claims.specs.Regions.{regions_of};

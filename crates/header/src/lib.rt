@@ -1,4 +1,6 @@
 // The package's header: check 7; and the finder of the proof section.
+#![tactic(auto)]
+
 pub mod finder;
 
 ghost use Rattle.std.specs.Prelude.{◌≡◌, ◌≤◌};

@@ -1,5 +1,7 @@
 // The loader for hosts in C and Rust: numbers and slices only. A slice is passed as a pointer and a length; each answer goes into an
 // array of the caller's.
+#![tactic(auto)]
+
 ghost use Rattle.std.specs.Prelude.{◌≡◌, [], ◌∷◌, length};
 ghost use Rattle.model.specs.Package.{proof_section};
 ghost use Rattle.model.specs.Runner.{run_of};

@@ -1,4 +1,6 @@
 // What a jump, a branch or a return does to a path of a block, and arrivals at annotations.
+#![tactic(auto)]
+
 pub mod regions;
 
 ghost use Rattle.std.specs.Prelude.{◌≡◌, ℕ, ◌≤◌, ◌<◌, length};

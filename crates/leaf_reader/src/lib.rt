@@ -1,4 +1,6 @@
 // The readers of a constant and of a variable, which build in the term table. The variable of a register is the node registers[v].
+#![tactic(auto)]
+
 ghost use Rattle.std.specs.Prelude.{◌≤◌, ◌<◌, length};
 ghost use Rattle.model.specs.Expression.{four_byte_constant, two_byte_variable};
 ghost use Rattle.workspace.specs.Layout.{most_variables};

@@ -1,5 +1,6 @@
 // The limits of documents 01 and 02 as constants of code. Each has the value of the model's definition that is named beside it; functions that use
 // one are proved against that definition.
+#![tactic(auto)]
 
 // mostInstructions: instructions of a routine.
 pub const MOST_INSTRUCTIONS: usize = 256;

@@ -1,4 +1,6 @@
 // Comparison of linear forms modulo 2^32 (rule 12): small terms are walked as trees, others by the table.
+#![tactic(auto)]
+
 ghost use Rattle.std.specs.Prelude.{◌≡◌};
 ghost use Rattle.model.specs.Linear.{same_form};
 ghost use Rattle.workspace.specs.Layout.{constant_word, hint_base, Same};

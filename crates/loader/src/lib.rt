@@ -1,4 +1,6 @@
 // The loader's public face.
+#![tactic(auto)]
+
 ghost use Rattle.std.specs.Prelude.{◌≡◌, ◌+◌, length};
 ghost use Rattle.model.specs.Package.{proof_section, finder_answer};
 ghost use Rattle.model.specs.Runner.{run_of};

@@ -1,4 +1,6 @@
 // The rules of logic: what each asks of a claim. None makes a new node.
+#![tactic(auto)]
+
 ghost use Rattle.std.specs.Prelude.{List, ℕ, ◌<◌, ◌≤◌, length};
 ghost use Rattle.model.specs.Goals.{Claim as Claimed};
 ghost use Rattle.model.specs.Rule.{from_assumption, evaluation, contradiction};

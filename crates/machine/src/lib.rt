@@ -1,4 +1,6 @@
 // The machine: one step of one instruction on lent registers and memory.
+#![tactic(auto)]
+
 ghost use Rattle.std.specs.Prelude.{◌≡◌, ◌+◌, ◌<◌, length, get_or, take, set};
 ghost use Rattle.model.specs.Package.{most_instructions};
 ghost use Rattle.machine.specs.Step.{Ready, target, state, Executed};

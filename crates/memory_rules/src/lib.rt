@@ -1,4 +1,6 @@
 // The rules of memory: what each asks of a claim. New nodes stand from the table's top on, at most four of them.
+#![tactic(auto)]
+
 ghost use Rattle.std.specs.Prelude.{◌≡◌, ◌-◌, ◌<◌, ◌≤◌};
 ghost use Rattle.nodes.specs.Table.{Formed, Space};
 ghost use Rattle.claims.specs.Parts.{claim_of, ClaimBelow};

@@ -1,4 +1,5 @@
 // The types that the definitions in specs/ share with code.
+#![tactic(auto)]
 
 // The kinds of comparison, in the order of their tags: 0, 1, 2, 3.
 #[derive(Drop)]

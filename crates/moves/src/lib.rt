@@ -1,4 +1,6 @@
 // What comes of one instruction on a path of a block, as types; and the instructions that assign.
+#![tactic(auto)]
+
 pub mod assignments;
 
 use goals::Progress;

@@ -1,6 +1,8 @@
 // The term table in the lent workspace: node i lies in the three words from TABLE + 3 * i: its parts, its value and its marks. Beside each
 // node stand the facts that other walks would look for: its tag, its size, whether it has variables, masks or shifts, its value where it has
 // none of them, and an earlier node of the same term where one is known.
+#![tactic(auto)]
+
 ghost use Rattle.std.specs.Prelude.{◌≡◌, suc, ◌+◌, ◌*◌, ◌/◌, ◌%◌, ◌≤◌, ◌<◌, length, set, eqb, leb};
 ghost use Rattle.model.specs.Term.{closed as isClosed, size as size_of};
 ghost use Rattle.model.specs.Goals.{most_term_nodes};

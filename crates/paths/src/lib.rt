@@ -1,4 +1,6 @@
 // A path of a block, and its changes.
+#![tactic(auto)]
+
 ghost use Rattle.std.specs.Prelude.{◌≡◌, ◌<◌, ◌^◌, get_or};
 ghost use Rattle.model.specs.Expression.{register_count};
 ghost use Rattle.model.specs.Package.{most_instructions};

@@ -1,4 +1,6 @@
 // The check program: judges the routine of routine.bin under the policy of policy.bin, and prints the verdict.
+#![tactic(auto)]
+
 use limits::{LEAST_WORKSPACE, MOST_BYTES};
 
 // The bytes of each file that can decide the answer, and one more.

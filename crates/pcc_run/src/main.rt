@@ -1,4 +1,6 @@
 // The run program: runs the routine of routine.bin under the policy of policy.bin from the state of start.bin, and prints the answer.
+#![tactic(auto)]
+
 ghost use Rattle.std.specs.Prelude.{◌≡◌, ◌≤◌, ◌-◌, ◌/◌, min, length};
 ghost use Rattle.model.specs.Runner.{run_of};
 ghost use Rattle.pcc_run.specs.Start.{most_start, budget_in, register_words, memory_words, registers_in, memory_in};

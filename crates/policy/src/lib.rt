@@ -1,4 +1,6 @@
 // The policy: checks 3 to 6, in reading order. Its conditions are read here, its sizes and its regions by crates of their own.
+#![tactic(auto)]
+
 ghost use Rattle.std.specs.Prelude.{◌≡◌, ◌≤◌, length};
 ghost use Rattle.policy.specs.Conditions.{ConditionReads, ConditionsRead};
 ghost use Rattle.policy.specs.Policy.{PolicyReads};

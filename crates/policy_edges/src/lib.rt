@@ -1,4 +1,5 @@
 // Samples at the limits of policies: regions and expressions, each judged and printed as in `edges`.
+#![tactic(auto)]
 
 // Memory sizes 16,384 and 16,385, with a region of the last word.
 pub fn memory_sizes(workspace: &mut [u32], policy: &mut [u8], routine: &mut [u8]) {

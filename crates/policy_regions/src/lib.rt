@@ -1,4 +1,6 @@
 // The regions of a policy, one by one from its two arrays: check 5. That both arrays are there is for the caller to see.
+#![tactic(auto)]
+
 ghost use Rattle.std.specs.Prelude.{◌≡◌, ◌+◌, ◌*◌, ◌≤◌, ◌<◌, length};
 ghost use Rattle.model.specs.Policy.{most_regions, region_at, region_fits, regions_from};
 ghost use Rattle.policy_regions.specs.Regions.{regions_result};

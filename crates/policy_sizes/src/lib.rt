@@ -1,4 +1,6 @@
 // The sizes of a policy: its first twelve bytes, field by field in reading order. A field that is missing is refused by check 3, one out of its range by check 4.
+#![tactic(auto)]
+
 ghost use Rattle.std.specs.Prelude.{◌≡◌};
 ghost use Rattle.model.specs.Policy.{sizes_of};
 ghost use Rattle.policy_sizes.specs.Sizes.{field_result, sizes_result, in_range, size_byte, memory_field};

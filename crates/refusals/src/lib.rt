@@ -1,4 +1,6 @@
 // The number and the place of each refusal, and the verdict that it makes.
+#![tactic(auto)]
+
 ghost use Rattle.std.specs.Prelude.{◌≡◌};
 ghost use Rattle.model.specs.Refusal.{number_of, place_of};
 ghost use Rattle.model.specs.Verdict.{refusing};

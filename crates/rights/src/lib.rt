@@ -1,4 +1,6 @@
 // Who may read or write a word.
+#![tactic(auto)]
+
 ghost use Rattle.std.specs.Prelude.{◌≡◌, ◌&&◌, ◌≤◌, take};
 ghost use Rattle.model.specs.Policy.{most_regions, covers, some_region};
 ghost use Rattle.rights.specs.Right.{grants, permits};

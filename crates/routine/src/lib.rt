@@ -1,2 +1,4 @@
 // The code of a package: its instructions.
+#![tactic(auto)]
+
 pub mod instructions;

@@ -1,4 +1,6 @@
 // A rule read from the proof: its number, its argument, and the next position.
+#![tactic(auto)]
+
 ghost use Rattle.std.specs.Prelude.{◌≡◌, List, ℕ};
 ghost use Rattle.std.proofs.Math.ListN.{get_elem?};
 ghost use Rattle.model.specs.Rule.{rules};

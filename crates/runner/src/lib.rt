@@ -1,4 +1,6 @@
 // The runner: checks 3 to 6, 2, 7, 8, 9, and then the machine's run.
+#![tactic(auto)]
+
 ghost use Rattle.std.specs.Prelude.{◌≡◌, ◌≤◌, length, take};
 ghost use Rattle.model.specs.Policy.{most_regions};
 ghost use Rattle.model.specs.Expression.{register_count};

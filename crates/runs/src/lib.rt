@@ -1,4 +1,6 @@
 // The budgeted run of decoded code on lent registers and memory.
+#![tactic(auto)]
+
 ghost use Rattle.std.specs.Prelude.{◌≡◌, take};
 ghost use Rattle.routine.specs.Code.{instructions_of};
 ghost use Rattle.runs.specs.Run.{Runnable, Ran};

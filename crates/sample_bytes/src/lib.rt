@@ -1,5 +1,6 @@
 // Policies and packages, written byte by byte into a lent buffer. Each function answers the position after what it wrote; a byte past
 // the buffer is dropped.
+#![tactic(auto)]
 
 // One byte.
 pub fn byte(out: &mut [u8], at: usize, x: u8) -> usize {

@@ -1,4 +1,6 @@
 // Samples and edges of documents 01 and 02 that are not marked (P), with the answers that the checker gives for them: one line each.
+#![tactic(auto)]
+
 use limits::{LEAST_WORKSPACE, MOST_BYTES};
 
 // The workspace that document 01 asks for at least.

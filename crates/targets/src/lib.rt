@@ -1,4 +1,6 @@
 // The jumps' targets: check 12; and the search for the annotation at an index.
+#![tactic(auto)]
+
 pub mod search;
 
 ghost use Rattle.std.specs.Prelude.{◌≤◌, ◌<◌, length, take};

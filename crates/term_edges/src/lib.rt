@@ -1,4 +1,5 @@
 // Samples at the limits of derivations, register terms and shifts, each judged and printed as in `edges`.
+#![tactic(auto)]
 
 // Derivations 32 and 33 levels deep.
 pub fn depths(workspace: &mut [u32], policy: &mut [u8], routine: &mut [u8]) {

@@ -1,4 +1,6 @@
 // The reader that builds expressions in the term table. The variable of a register is the node registers[v].
+#![tactic(auto)]
+
 ghost use Rattle.std.specs.Prelude.{◌≡◌, ◌≤◌, ◌<◌, length, get_or};
 ghost use Rattle.model.specs.Expression.{most_nodes};
 ghost use Rattle.workspace.specs.Layout.{most_variables};

@@ -1,4 +1,6 @@
 // Walks along a term in the table: whether two nodes have the same term, and the value of a term without variables.
+#![tactic(auto)]
+
 ghost use Rattle.std.specs.Prelude.{◌≡◌, suc, ◌≤◌, length};
 ghost use Rattle.model.specs.Term.{eval, eq_term};
 ghost use Rattle.nodes.specs.Table.{parts_at, value_at, term_at, place, Shaped, Formed};

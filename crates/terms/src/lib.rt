@@ -1,4 +1,6 @@
 // New nodes of the term table, with the facts beside them. A node with the same words is looked for by a hint; it then stands for the new one.
+#![tactic(auto)]
+
 ghost use Rattle.std.specs.Prelude.{◌≡◌, ◌&&◌, suc, ◌+◌, ◌*◌, ◌/◌, ◌%◌, ◌≤◌, ◌<◌, length, eqb};
 ghost use Rattle.model.specs.Term.{constant, variable, sum, difference, shift as shift_of};
 ghost use Rattle.model.specs.Expression.{most_count};

@@ -1,6 +1,8 @@
 // Linear forms by the table: each node is visited once, from the last on. Where a node holds no value, that word, which is zero between uses,
 // holds its weight, the number of times that the form of its term is to be added. A masked or shifted term stands for itself: its weight
 // stays, and nodes with the same term are brought together at the end.
+#![tactic(auto)]
+
 ghost use Rattle.std.specs.Prelude.{◌≡◌, suc, ◌*◌, ◌%◌, ◌^◌, ◌≤◌, ◌<◌, max, length};
 ghost use Rattle.workspace.specs.Layout.{constant_word, hint_base, Same};
 ghost use Rattle.nodes.specs.Table.{place, valued_at, term_at, Shaped};

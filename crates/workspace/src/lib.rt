@@ -1,5 +1,7 @@
 // The lent workspace: its layout as constants of code (specs/Layout has the same places by name, and says what stands where), and how it
 // is cleared.
+#![tactic(auto)]
+
 ghost use Rattle.std.specs.Prelude.{◌≡◌, length, replicate};
 
 use limits::{LEAST_WORKSPACE, MOST_ATOMS, REGISTERS};
