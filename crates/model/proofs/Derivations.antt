@@ -1,24 +1,27 @@
 -- What is derived holds, and where the checker answers 0 every goal of the trace holds and none is refused. Assumes nothing.
 use Prim.Native.Nat.{ℕ, ◌≤◌, ◌+◌, zero, suc}
 use mathlib.Core.List.{List, [], ◌∷◌}
+use lib.ListN.{length}
 use mathlib.Core.Path.{◌≡◌, refl}
 use native.Mathlib.Omega.{arith}
 use Rattle.model.specs.Annotation.{Annotation}
 use Rattle.model.specs.Atom.{Atom, Holds, AllHold}
-use Rattle.model.specs.Derivation.{most_levels, rule_at, derive_all, derive}
+use Rattle.model.specs.Derivation.{most_levels, proof_field, rule_at, derive_all, derive}
+use Rattle.model.specs.Expression.{expression_at}
+use Rattle.model.specs.Field.{byte_at, half_at}
 use Rattle.model.specs.Goals.{Claim, Goal, Trace, goals, append, annotation_block, annotation_blocks, atom, goal, finish, refuse}
 use Rattle.model.specs.Policy.{Policy}
 use Rattle.model.specs.Refusal.{number_of}
-use Rattle.model.specs.Result.{Result, stop, value}
+use Rattle.model.specs.Result.{Result, stop, value, ◌>>=◌}
 use Rattle.model.specs.Routine.{Routine}
-use Rattle.model.specs.Rule.{plain, with_index, with_term, with_region}
+use Rattle.model.specs.Rule.{Rule, Format, plain, with_index, with_term, with_region}
 use Rattle.model.specs.Verdict.{answered, judge}
 use Rattle.model.specs.declared.Refusal.{Refusal}
 use Rattle.model.specs.declared.Refusal.TheVariants.{SmallWorkspace, WrongStart, PolicyLength, PolicySize, BadRegion, PolicyExpression, BadHeader, BadInstruction, BadTarget, BadAnnotation, AnnotationBytes, Unannotated, PastLast, LargeTerm, ProofExhausted, UnfitRule, DeepDerivation, BadArgument, ProofLeft}
 use Rattle.model.specs.declared.Verdict.{Verdict}
 use Rattle.model.proofs.Gives.{Gives, gives_map, gives_element, gives_as, gives, gives_then, gives_next, gives_value, stops}
 use Rattle.model.proofs.Lists.{empty, Every, ◌&◌}
-use Rattle.model.proofs.Rules.{ClaimHolds, rules_sound, RegionsFit, SoundRule}
+use Rattle.model.proofs.Rules.{ClaimHolds, FormatSound, rules_sound, RegionsFit, SoundRule}
 use Rattle.model.proofs.Terms.{WordEnv}
 
 -- derivations of all atoms, where each derivation is right
@@ -32,18 +35,26 @@ all_derived bytes env one k (a ∷ rest) p =
 
 module _ (bytes : List ℕ) (policy : Policy) (fit : RegionsFit policy) (g : Goal)
     (env : ℕ → ℕ) (words : WordEnv env) (assumed : AllHold env g.assumptions) where
+  -- a rule is sound with each argument that is read
+  argument_read : (p : ℕ) (format : Format) → FormatSound policy fit g env words assumed format
+      → Gives (λ (r : Rule × ℕ). SoundRule policy fit g env words assumed r.0) (elim format as (λ _. Result Refusal (Rule × ℕ)) [
+          | plain rule ↦ value (rule, p + 1)
+          | with_index rule ↦ proof_field bytes (half_at bytes (length bytes) (p + 1)) >>= λ index. value (rule index, p + 3)
+          | with_term rule ↦ proof_field bytes (expression_at bytes (length bytes) g.variables (p + 1)) >>= λ (m, q). value (rule m, q)
+          | with_region rule ↦ proof_field bytes (byte_at bytes (length bytes) (p + 1)) >>= λ j. value (rule j, p + 2)
+        ])
+  argument_read p (plain rule) sound = gives sound
+  argument_read p (with_index rule) sound = gives_next λ index _. gives (sound index)
+  argument_read p (with_term rule) sound = gives_next λ r _. gives (sound r.0)
+  argument_read p (with_region rule) sound = gives_next λ j _. gives (sound j)
+
   -- a rule that is read is sound
   rule_read : (p : ℕ) → Gives (λ r. SoundRule policy fit g env words assumed r.0) (rule_at bytes g.variables p)
   unfolding rule_at
   rule_read p =
       gives_next λ number _.
-      gives_then (gives_element number (UnfitRule p) (rules_sound policy fit g env words assumed)) λ format.
-      elim format [
-        | plain rule ↦ λ sound. gives sound
-        | with_index rule ↦ λ sound. search (gives_next, gives)
-        | with_term rule ↦ λ sound. search (gives_next, gives)
-        | with_region rule ↦ λ sound. search (gives_next, gives)
-      ]
+      gives_then (gives_element number (UnfitRule p) (rules_sound policy fit g env words assumed)) λ format sound.
+      argument_read p format sound
 
   derived_holds : (levels : ℕ) (claim : Claim) (p : ℕ) → Gives (λ _. ClaimHolds policy env claim) (derive bytes policy g levels claim p)
   unfolding derive ClaimHolds

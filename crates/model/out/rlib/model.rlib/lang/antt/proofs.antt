@@ -1,0 +1,17 @@
+pub mod Lists
+pub mod Results
+pub mod Gives
+pub mod Words
+pub mod Terms
+pub mod Indeterminates
+pub mod LinearForm
+pub mod Rules
+pub mod Derivations
+pub mod Runs
+pub mod Formed
+pub mod Reading
+pub mod Paths
+pub mod Walk
+pub mod Property
+pub mod Kept
+pub mod Samples

@@ -1,0 +1,61 @@
+-- What holds of every value that a computation gives, shown step by step along its `do` block. Assumes nothing.
+use Prim.Native.Nat.{ℕ, zero, suc}
+use mathlib.Core.Bool.{Bool, true, false}
+use mathlib.Core.List.{List}
+use mathlib.Core.Path.{◌≡◌, refl, subst}
+use lib.ListN.{get_elem?}
+use Rattle.model.specs.Result.{Result, ◌>>=◌, check, found, stop_as, stop, value}
+use Rattle.model.proofs.Lists.{empty, Every, ◌&◌}
+
+-- P holds of the value, if there is one
+pub data Gives {E A : Type 0} (P : A → Type 0) : Result E A → Type 0 where
+  stops : {e : E} → Gives P (stop e)
+  gives : {a : A} → P a → Gives P (value a)
+
+-- a step `a ← r` and what follows it
+pub gives_then : {E A B : Type 0} {P : B → Type 0} {Q : A → Type 0} {r : Result E A} {f : A → Result E B}
+    → Gives Q r → ((a : A) → Q a → Gives P (f a)) → Gives P (r >>= f)
+unfolding ◌>>=◌
+gives_then stops k = stops
+gives_then (gives {a = a} q) k = k a q
+
+-- the same, with the value's equation for what is known of it: `search` walks a block by this
+pub gives_next : {E A B : Type 0} {P : B → Type 0} {r : Result E A} {f : A → Result E B} → ((a : A) → r ≡ value a → Gives P (f a)) → Gives P (r >>= f)
+unfolding ◌>>=◌
+gives_next {r = stop e} k = stops
+gives_next {r = value a} k = k a refl
+
+module _ {E : Type 0} where
+  pub gives_check : (test : Bool) (e : E) → Gives (λ _. test ≡ true) (check test e)
+  unfolding check
+  gives_check true e = gives refl
+  gives_check false e = stops
+
+  module _ {A : Type 0} where
+    -- of a value of which nothing need be known
+    pub gives_any : (r : Result E A) → Gives (λ _. Unit {0}) r
+    gives_any (stop e) = stops
+    gives_any (value a) = gives tt
+
+    module _ {P : A → Type 0} where
+      pub gives_map : {Q : A → Type 0} {r : Result E A} → ((a : A) → Q a → P a) → Gives Q r → Gives P r
+      gives_map k stops = stops
+      gives_map k (gives {a = a} q) = gives (k a q)
+
+      -- an element of a list that is found at an index
+      pub gives_element : {l : List A} (i : ℕ) (e : E) → Every P l → Gives P (found (get_elem? l i) e)
+      unfolding found
+      gives_element i e empty = stops
+      gives_element zero e (p & ps) = gives p
+      gives_element (suc i) e (p & ps) = gives_element i e ps
+
+      pub gives_as : {F : Type 0} {r : Result E A} (f : E → F) → Gives P r → Gives P (stop_as f r)
+      unfolding stop_as
+      gives_as f stops = stops
+      gives_as f (gives p) = gives p
+
+      pub gives_value : {r : Result E A} {a : A} → r ≡ value a → Gives P r → P a
+      gives_value e h = from (subst (λ r. Gives P r) e h)
+        where
+          from : {a : A} → Gives {E = E} P (value a) → P a
+          from (gives p) = p

@@ -1,0 +1,201 @@
+-- The commissioning samples of document 01 that are marked (P), as one list, and samples of document 02, in further lists, that the definitions
+-- evaluate (proofs/Samples). Assumes nothing.
+use Rattle.std.specs.Prelude.{ℕ, ◌/◌, ◌%◌, ◌^◌, Bool, true, ◌&&◌, List, [], ◌∷◌, ◌++◌, length, replicate, eqb}
+use Rattle.model.specs.Result.{◌>>=◌, check, found, stop_as}
+use Rattle.model.specs.Refusal.{number_of, place_of}
+use Rattle.model.specs.Word.{add_w, sub_w, mask_w, shift_w, le16, le32}
+use Rattle.model.specs.Term.{eval, size, closed, eq_term, substitute}
+use Rattle.model.specs.Atom.{compares, holds, tag_of, eq_atom, substitute_atom}
+use Rattle.model.specs.Field.{byte_at, half_at, word_at}
+use Rattle.model.specs.Expression.{node_of, nodes_at, expression_at, atom_at, atoms_at}
+use Rattle.model.specs.Policy.{some_region, readable_word, writable_word, region_fits, policy_refusal, sizes_of, region_at, regions_from, read_policy}
+use Rattle.model.specs.Instruction.{provided, decode, target_of, target_inside}
+use Rattle.model.specs.Package.{read_header, instructions_from, read_code, code_of}
+use Rattle.model.specs.Annotation.{annotation_at, annotation_refusal, annotation_from, annotations_from, read_annotations}
+use Rattle.model.specs.Routine.{target_annotated, targets_annotated, read_routine}
+use Rattle.model.specs.Machine.{execute, step}
+use Rattle.model.specs.Goals.{goals, append, arrival, returning, small_enough, assign, at_target, jump, branch, move, landing, tracing, walk, entry_block, annotation_block, annotation_blocks, trace_of}
+use Rattle.model.specs.Linear.{constant_of, coefficient_of, variable_bound, variables_below, opaque_terms, indeterminates, same_coefficients, same_form}
+use Rattle.model.specs.Rule.{atom_of, sides_of, readable_of, writable_of, pair_of, sum_of, difference_of, mask_of, shift_of, equal_pairs, congruent, region_premises, premises}
+use Rattle.model.specs.Derivation.{proof_refusal, rule_at, derive_all, derive}
+use Rattle.model.specs.Verdict.{answered, judge, read_inputs, check_of}
+use Rattle.model.specs.Runner.{run_from, read_start, run_of}
+
+-- what is handed to the checker, with the least workspace, or to the runner
+pub data Input : Type 0 where
+  to_checker : (policy_bytes package_bytes : List ℕ) → Input
+  to_runner : (policy_bytes package_bytes registers memory : List ℕ) (budget : ℕ) → Input
+
+-- number, place, and goals derived or steps run
+abbrev pub Answer : Type 0
+Answer = ℕ × ℕ × ℕ
+
+unfoldable pub answer_of : Input → Answer
+unfolding ◌>>=◌ check found stop_as number_of place_of add_w sub_w mask_w shift_w le16 le32 eval size closed eq_term substitute compares holds tag_of eq_atom substitute_atom byte_at half_at word_at node_of nodes_at expression_at atom_at atoms_at some_region readable_word writable_word region_fits policy_refusal sizes_of region_at regions_from read_policy provided decode target_of target_inside read_header instructions_from read_code code_of annotation_at annotation_refusal annotation_from annotations_from read_annotations target_annotated targets_annotated read_routine execute step goals append arrival returning small_enough assign at_target jump branch move landing tracing walk entry_block annotation_block annotation_blocks trace_of constant_of coefficient_of variable_bound variables_below opaque_terms indeterminates same_coefficients same_form atom_of sides_of readable_of writable_of pair_of sum_of difference_of mask_of shift_of equal_pairs congruent region_premises premises proof_refusal rule_at derive_all derive answered judge read_inputs check_of run_from read_start run_of
+answer_of (to_checker policy_bytes package_bytes) =
+    let v = check_of 16384 policy_bytes package_bytes in
+    (v.number, v.place, v.goals)
+answer_of (to_runner policy_bytes package_bytes registers memory budget) =
+    let r = run_of policy_bytes package_bytes registers memory budget in
+    (r.outcome.number, r.outcome.place, r.outcome.steps)
+
+-- a sample: an input, and the answer that document 01 gives for it
+pub record Sample : Type 0 where
+  pub input : Input
+  pub answer : Answer
+
+abbrev pub sample : Input → (number place count : ℕ) → Sample
+sample input number place count = record { input = input; answer = (number, place, count) }
+
+unfoldable pub right : Sample → Bool
+unfolding answer_of
+right s =
+    let a = answer_of s.input in
+    eqb a.0 s.answer.0 && eqb a.1 s.answer.1 && eqb a.2 s.answer.2
+
+unfoldable pub all_right : List Sample → Bool
+unfolding right
+all_right [] = true
+all_right (s ∷ rest) = right s && all_right rest
+
+-- ---- the bytes
+
+-- the policy of S with step limit N
+abbrev pub policy_s : (N : ℕ) → List ℕ
+policy_s N = 0x01 ∷ 0x00 ∷ 0x00 ∷ 0x00 ∷ 0x01 ∷ 0x00 ∷ 0x00 ∷ 0x00 ∷ N ∷ 0x00 ∷ 0x00 ∷ 0x00 ∷ 0x00 ∷ 0x00 ∷ 0x00 ∷ 0x00 ∷ 0x07 ∷ 0x00 ∷ 0x00 ∷ 0x00 ∷ []
+
+-- the package of S with instruction count n and a proof of so many bytes
+abbrev pub package_s : (n proof_bytes : ℕ) → (proof : List ℕ) → List ℕ
+package_s n proof_bytes proof =
+    (n ∷ 0x00 ∷ 0x00 ∷ 0x00 ∷ 0x00 ∷ 0x00 ∷ 0x00 ∷ 0x00 ∷ proof_bytes ∷ 0x00 ∷ 0x00 ∷ 0x00 ∷ 0x09 ∷ 0x00 ∷ 0x00 ∷ 0x00 ∷ 0x00 ∷ 0x00 ∷ 0x00 ∷ 0x00 ∷ []) ++ proof
+
+-- one jump to 0, annotated there with credit constant 5, and a proof of four bytes 03
+abbrev pub package_jump : List ℕ
+package_jump =
+    0x01 ∷ 0x00 ∷ 0x01 ∷ 0x00 ∷ 0x08 ∷ 0x00 ∷ 0x00 ∷ 0x00 ∷ 0x04 ∷ 0x00 ∷ 0x00 ∷ 0x00
+    ∷ 0x06 ∷ 0x00 ∷ 0x00 ∷ 0x00 ∷ 0x00 ∷ 0x00 ∷ 0x00 ∷ 0x00
+    ∷ 0x00 ∷ 0x00 ∷ 0x00 ∷ 0x00 ∷ 0x05 ∷ 0x00 ∷ 0x00 ∷ 0x00
+    ∷ 0x03 ∷ 0x03 ∷ 0x03 ∷ 0x03 ∷ []
+
+-- the operation word of 1 := 1 + 1
+abbrev pub double : List ℕ
+double = 0x01 ∷ 0x01 ∷ 0x01 ∷ 0x01 ∷ []
+
+-- eight times 1 := 1 + 1, and no proof
+abbrev pub package_eight : List ℕ
+package_eight =
+    (0x08 ∷ 0x00 ∷ 0x00 ∷ 0x00 ∷ 0x00 ∷ 0x00 ∷ 0x00 ∷ 0x00 ∷ 0x00 ∷ 0x00 ∷ 0x00 ∷ 0x00 ∷ [])
+    ++ (double ++ double ++ double ++ double ++ double ++ double ++ double ++ double ++ replicate 32 0x00)
+
+-- seven times 1 := 1 + 1, a return, and the proof 02
+abbrev pub package_seven : List ℕ
+package_seven =
+    (0x08 ∷ 0x00 ∷ 0x00 ∷ 0x00 ∷ 0x00 ∷ 0x00 ∷ 0x00 ∷ 0x00 ∷ 0x01 ∷ 0x00 ∷ 0x00 ∷ 0x00 ∷ [])
+    ++ (double ++ double ++ double ++ double ++ double ++ double ++ double)
+    ++ (0x09 ∷ 0x00 ∷ 0x00 ∷ 0x00 ∷ [])
+    ++ replicate 32 0x00
+    ++ (0x02 ∷ [])
+
+-- ---- the list
+
+abbrev pub samples : List Sample
+samples =
+    sample (to_checker (policy_s 1) (package_s 1 1 (0x02 ∷ []))) 0 0 1
+    ∷ sample (to_checker (policy_s 0) (package_s 1 1 (0x02 ∷ []))) 16 20 0
+    ∷ sample (to_checker (policy_s 2) (package_s 1 1 (0x02 ∷ []))) 16 20 0
+    ∷ sample (to_checker (policy_s 2) (package_s 1 1 (0x03 ∷ []))) 0 0 1
+    ∷ sample (to_checker (policy_s 1) (package_s 1 0 [])) 15 20 0
+    ∷ sample (to_checker (policy_s 1) (package_s 1 2 (0x02 ∷ 0x02 ∷ []))) 19 21 1
+    ∷ sample (to_checker (policy_s 5) package_jump) 16 31 3
+    ∷ sample (to_runner (policy_s 1) (package_s 1 1 (0x02 ∷ [])) (replicate 16 0) (0 ∷ []) 0) 20 0 0
+    ∷ sample (to_runner (policy_s 1) (package_s 1 1 (0x02 ∷ [])) (replicate 16 0) (0 ∷ []) 1) 0 0 1
+    ∷ sample (to_checker (policy_s 1) (package_s 0 1 (0x02 ∷ []))) 7 0 0
+    ∷ sample (to_checker (policy_s 8) package_seven) 0 0 1
+    ∷ sample (to_checker (policy_s 8) package_eight) 14 7 0
+    ∷ []
+
+-- ---- samples of document 02
+
+-- a field of two bytes, and of four
+abbrev pub half : ℕ → List ℕ
+half x = x % 2 ^ 8 ∷ x / 2 ^ 8 % 2 ^ 8 ∷ []
+
+abbrev pub whole : ℕ → List ℕ
+whole x = half (x % 2 ^ 16) ++ half (x / 2 ^ 16)
+
+-- an instruction: its operation word and its immediate
+pub record Coded : Type 0 where
+  pub operation : List ℕ
+  pub immediate : List ℕ
+
+abbrev pub coded : (op d a b i : ℕ) → Coded
+coded op d a b i = record { operation = op ∷ d ∷ a ∷ b ∷ []; immediate = whole i }
+
+unfoldable pub operation_bytes : List Coded → List ℕ
+operation_bytes [] = []
+operation_bytes (c ∷ rest) = c.operation ++ operation_bytes rest
+
+unfoldable pub immediate_bytes : List Coded → List ℕ
+immediate_bytes [] = []
+immediate_bytes (c ∷ rest) = c.immediate ++ immediate_bytes rest
+
+-- a package: code, so many annotations and their section, proof
+unfoldable pub packaged : List Coded → (annotations : ℕ) → (section proof : List ℕ) → List ℕ
+unfolding operation_bytes immediate_bytes
+packaged code annotations section proof =
+    half (length code) ++ half annotations ++ whole (length section) ++ whole (length proof)
+    ++ operation_bytes code ++ immediate_bytes code ++ section ++ proof
+
+-- a policy with M = 1, one region over that word with both rights, a limit, and so many atoms of precondition and postcondition
+abbrev pub policed : (limit pre post : ℕ) → (atoms : List ℕ) → List ℕ
+policed limit pre post atoms = 0x01 ∷ pre ∷ post ∷ 0x00 ∷ whole 1 ++ whole limit ++ whole 0 ++ whole 7 ++ atoms
+
+-- one operation of register 1 upon itself, with the immediate i, and a return
+abbrev pub package_one : (op i : ℕ) → (proof : List ℕ) → List ℕ
+package_one op i proof = packaged (coded op 1 1 0 i ∷ coded 9 0 0 0 0 ∷ []) 0 [] proof
+
+-- expressions: a constant, a variable of one byte, variable 1 masked with a constant
+abbrev pub constant_e : (c : ℕ) → List ℕ
+constant_e c = 0x00 ∷ whole c
+
+abbrev pub variable_e : (v : ℕ) → List ℕ
+variable_e v = 0x01 ∷ v ∷ 0x00 ∷ []
+
+abbrev pub mask_e : (c : ℕ) → List ℕ
+mask_e c = 0x04 ∷ variable_e 1 ++ constant_e c
+
+-- register 1 at most 255
+abbrev pub at_most255 : List ℕ
+at_most255 = 0x03 ∷ variable_e 1 ++ constant_e 0xff
+
+-- 1 := 1 masked with 4080; 1 := 1 shifted right by 4; jump to 4 if 1 = 2; 1 := Mem[0 + 1]; return
+abbrev pub package_test : List ℕ
+package_test =
+    packaged (coded 10 1 1 0 4080 ∷ coded 11 1 1 0 4 ∷ coded 8 0 1 2 4 ∷ coded 4 1 0 0 1 ∷ coded 9 0 0 0 0 ∷ []) 0 [] []
+
+-- seven times 1 := 1 + 1, then 1 := 1 shifted right by 0: 256 nodes
+abbrev pub package_shifted : List ℕ
+package_shifted = packaged (replicate 7 (coded 1 1 1 1 0) ++ coded 11 1 1 0 0 ∷ []) 0 [] []
+
+-- S-1: operations 10 and 11, tags 4 and 5, rules 3, 12, 25, 26 and 27
+abbrev pub mask_samples : List Sample
+mask_samples =
+    sample (to_checker (policed 2 0 1 at_most255) (package_one 0x0a 0xff (0x19 ∷ 0x02 ∷ []))) 0 0 2
+    ∷ sample (to_checker (policed 2 0 1 at_most255) (package_one 0x0a 0xfe (0x19 ∷ 0x02 ∷ []))) 16 28 0
+    ∷ sample (to_checker (policed 2 0 1 at_most255) (package_one 0x0b 24 (0x1b ∷ 0x02 ∷ []))) 0 0 2
+    ∷ sample (to_checker (policed 2 0 1 at_most255) (package_one 0x0b 23 (0x1b ∷ 0x02 ∷ []))) 16 28 0
+    ∷ sample (to_checker (policed 2 0 1 at_most255) (package_one 0x0b 24 (0x1a ∷ 0x02 ∷ []))) 16 28 0
+    ∷ sample (to_checker (policed 2 0 1 at_most255) (package_one 0x0b 32 (0x1b ∷ 0x02 ∷ []))) 8 0 0
+    -- 61680 masked with 4080, shifted by 4, is 15: by rule 3
+    ∷ sample (to_checker (policed 1 0 1 (0x00 ∷ 0x05 ∷ 0x04 ∷ 0x04 ∷ constant_e 61680 ++ constant_e 4080 ++ constant_e 15)) (package_s 1 2 (0x03 ∷ 0x02 ∷ []))) 0 0 2
+    -- a count byte of 32, and one that is not there
+    ∷ sample (to_checker (policed 1 0 1 (0x00 ∷ 0x05 ∷ 0x20 ∷ [])) (package_s 1 1 (0x02 ∷ []))) 6 22 0
+    ∷ sample (to_checker (policed 1 0 1 (0x00 ∷ 0x05 ∷ [])) (package_s 1 1 (0x02 ∷ []))) 3 22 0
+    -- a masked term is one more variable of rule 12, another masked term is another, and one of constants is one too
+    ∷ sample (to_checker (policed 1 0 1 (0x00 ∷ 0x03 ∷ 0x02 ∷ mask_e 255 ++ variable_e 2 ++ variable_e 2 ++ mask_e 255)) (package_s 1 2 (0x0c ∷ 0x02 ∷ []))) 0 0 2
+    ∷ sample (to_checker (policed 1 0 1 (0x00 ∷ mask_e 255 ++ mask_e 254)) (package_s 1 2 (0x0c ∷ 0x02 ∷ []))) 16 20 0
+    ∷ sample (to_checker (policed 1 0 1 (0x00 ∷ 0x05 ∷ 0x01 ∷ constant_e 2 ++ constant_e 1)) (package_s 1 2 (0x0c ∷ 0x02 ∷ []))) 16 20 0
+    ∷ sample (to_checker (policy_s 8) package_shifted) 14 7 0
+    ∷ sample (to_runner (policy_s 1) package_test (0 ∷ 61680 ∷ 15 ∷ replicate 13 0) (0 ∷ []) 9) 0 4 4
+    ∷ sample (to_runner (policy_s 1) package_test (0 ∷ 61680 ∷ 14 ∷ replicate 13 0) (0 ∷ []) 9) 21 3 3
+    ∷ []
