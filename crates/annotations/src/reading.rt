@@ -29,7 +29,7 @@ fn body(bytes: &[u8], end: usize, count: usize, at: usize) -> Reading
     expressions::atoms(bytes, end, REGISTERS, count, next)
 }
 
-#[derive(Drop)]
+#[derive(Clone, Copy)]
 pub enum AnnotationAnswer {
     Next { index: usize, next: usize },
     Refused(Refusal),
@@ -64,7 +64,7 @@ pub fn annotation(bytes: &[u8], header: Header, lowest: usize, at: usize) -> Ann
     }
 }
 
-#[derive(Drop)]
+#[derive(Clone, Copy)]
 pub enum AnnotationsAnswer {
     Passed,
     Refused(Refusal),

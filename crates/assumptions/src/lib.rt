@@ -11,7 +11,7 @@ use model::Comparison;
 use workspace::ASSUMPTIONS;
 
 // An assumption: a comparison of two nodes of the term table.
-#[derive(Drop)]
+#[derive(Clone, Copy)]
 pub struct Assumption {
     pub kind: Comparison,
     pub left: usize,

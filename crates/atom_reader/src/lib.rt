@@ -12,7 +12,7 @@ use limits::REGISTERS;
 use model::Comparison;
 
 // What reading an atom gives: the nodes of its sides, the next position and the table's new top.
-#[derive(Drop)]
+#[derive(Clone, Copy)]
 pub enum AtomParse {
     Atom {
         kind: Comparison,

@@ -18,7 +18,7 @@ use paths::Path;
 use rule_reader::REGISTER_NODES;
 
 // Where a block starts, and the node of its credit.
-#[derive(Drop)]
+#[derive(Clone, Copy)]
 pub struct Block {
     pub path: Path,
     pub credit: usize,

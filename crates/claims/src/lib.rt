@@ -11,7 +11,7 @@ use model::Comparison;
 pub const REGION_WORDS: usize = 3 * MOST_REGIONS;
 
 // What a goal or a premise claims; terms are nodes of the table.
-#[derive(Drop)]
+#[derive(Clone, Copy)]
 pub enum Claim {
     Atom(Comparison, usize, usize),
     Readable(usize),
@@ -19,14 +19,14 @@ pub enum Claim {
 }
 
 // A claim at an instruction.
-#[derive(Drop)]
+#[derive(Clone, Copy)]
 pub struct Goal {
     pub claim: Claim,
     pub instruction: usize,
 }
 
 // What a claim is judged in: how many regions, assumptions and variables there are.
-#[derive(Drop)]
+#[derive(Clone, Copy)]
 pub struct Scope {
     pub regions: usize,
     pub assumptions: usize,
@@ -34,7 +34,7 @@ pub struct Scope {
 }
 
 // A comparison of two nodes, to be derived.
-#[derive(Drop)]
+#[derive(Clone, Copy)]
 pub struct Premise {
     pub kind: Comparison,
     pub left: usize,
@@ -42,7 +42,7 @@ pub struct Premise {
 }
 
 // What a rule asks of a claim: whether it fits, and its premises, the first `count` of three; `top` is the table's new top.
-#[derive(Drop)]
+#[derive(Clone, Copy)]
 pub struct Plan {
     pub fits: bool,
     pub count: usize,

@@ -14,35 +14,35 @@ use fields::kinds;
 use model::Comparison;
 
 // Two nodes, or that what is looked at has not the form that is asked for.
-#[derive(Drop)]
+#[derive(Clone, Copy)]
 pub enum Pair {
     Nodes(usize, usize),
     Misfit,
 }
 
 // An operation of two terms.
-#[derive(Drop)]
+#[derive(Clone, Copy)]
 pub enum Operation {
     Sum,
     Difference,
 }
 
 // The right that a claim asks for, 1 to read or 2 to write, and the node; a comparison asks for none, 0.
-#[derive(Drop)]
+#[derive(Clone, Copy)]
 pub struct Access {
     pub right: u32,
     pub node: usize,
 }
 
 // The count of a shift and the node that it shifts, or a misfit.
-#[derive(Drop)]
+#[derive(Clone, Copy)]
 pub enum Shift {
     By(u32, usize),
     Misfit,
 }
 
 // What makes two terms of one operation equal: a = c and b = d, for nodes a, b, c, d, or a = c alone, for a and c; or a misfit.
-#[derive(Drop)]
+#[derive(Clone, Copy)]
 pub enum Congruence {
     Pairs(usize, usize, usize, usize),
     Single(usize, usize),

@@ -9,7 +9,7 @@ use libc::STDOUT_FILENO;
 
 // What reading a file gave: whether it can be read, and if so how many bytes stand at the start of the buffer. If not, a message on
 // standard error has named it.
-#[derive(Drop)]
+#[derive(Clone, Copy)]
 pub struct Loaded {
     pub readable: bool,
     pub bytes: usize,

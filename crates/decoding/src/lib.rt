@@ -12,7 +12,7 @@ use model::Instruction;
 const REGISTERS: u8 = limits::REGISTERS as u8;
 
 // What five numbers stand for: an instruction, or none.
-#[derive(Drop)]
+#[derive(Clone, Copy)]
 pub enum Decoded {
     Good(Instruction),
     Bad,
@@ -101,7 +101,7 @@ pub fn decode(op: u8, d: u8, a: u8, b: u8, i: u32) -> Decoded
 }
 
 // Where an instruction may jump.
-#[derive(Drop)]
+#[derive(Clone, Copy)]
 pub enum Target {
     At(u32),
     Nowhere,

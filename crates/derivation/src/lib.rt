@@ -15,14 +15,14 @@ use model::{Comparison, Refusal};
 use rule_reader::Opened;
 
 // What a rule in the proof comes to: its premises and the position of the first one's derivation, or a refusal.
-#[derive(Drop)]
+#[derive(Clone, Copy)]
 enum Step {
     Premises { plan: Plan, next: usize },
     Refused(Refusal),
 }
 
 // The position after a derivation, or a refusal.
-#[derive(Drop)]
+#[derive(Clone, Copy)]
 pub enum Derived {
     Next(usize),
     Refused(Refusal),

@@ -14,7 +14,7 @@ use scanning::Scanned;
 const NODES: usize = MOST_NODES as usize;
 
 // What reading finds: where it goes on, or why it stops.
-#[derive(Drop)]
+#[derive(Clone, Copy)]
 pub enum Reading {
     Next(usize),
     Missing,

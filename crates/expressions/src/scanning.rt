@@ -9,7 +9,7 @@ use limits::MOST_COUNT;
 const COUNT: u8 = MOST_COUNT as u8;
 
 // What scanning the nodes of an expression finds: the next position and how many nodes are left then; bytes missing; a fault at a place.
-#[derive(Drop)]
+#[derive(Clone, Copy)]
 pub enum Scanned {
     Nodes { next: usize, left: usize },
     Missing,

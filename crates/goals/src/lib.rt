@@ -16,14 +16,14 @@ use model::Refusal;
 use paths::Path;
 
 // Where the proof has been read to, and how many goals are derived.
-#[derive(Drop)]
+#[derive(Clone, Copy)]
 pub struct Progress {
     pub at: usize,
     pub goals: usize,
 }
 
 // What comes of deriving goals: the progress after them, or the refusal and the goals derived by then.
-#[derive(Drop)]
+#[derive(Clone, Copy)]
 pub enum Judged {
     Next(Progress),
     Refused(Refusal, usize),

@@ -10,7 +10,7 @@ ghost use Rattle.header.specs.Headers.{HeaderRead};
 use limits::{MOST_ANNOTATIONS, MOST_BYTES, MOST_INSTRUCTIONS};
 use model::{Header, Refusal};
 
-#[derive(Drop)]
+#[derive(Clone, Copy)]
 pub enum HeaderAnswer {
     Passed(Header),
     Refused(Refusal),

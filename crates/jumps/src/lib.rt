@@ -28,7 +28,7 @@ use targets::search;
 use targets::search::Found;
 
 // What stays fixed: the policy, the package's header, and where the proof starts.
-#[derive(Drop)]
+#[derive(Clone, Copy)]
 pub struct Setting {
     pub policy: Policy,
     pub header: Header,
@@ -36,7 +36,7 @@ pub struct Setting {
 }
 
 // What comes of a path's arrival at an index: its goals, if the index is annotated.
-#[derive(Drop)]
+#[derive(Clone, Copy)]
 pub enum Arrived {
     At(Judged),
     Nowhere,

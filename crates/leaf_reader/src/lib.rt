@@ -10,7 +10,7 @@ use limits::REGISTERS;
 
 // What reading an expression gives: its node, the next position, the nodes left and the table's new top; or bytes are missing; or a
 // fault at a position.
-#[derive(Drop)]
+#[derive(Clone, Copy)]
 pub enum Parse {
     Term {
         number: u32,

@@ -10,7 +10,7 @@ ghost use Rattle.weights.specs.Weights.{Reckoned};
 ghost use Rattle.linear.specs.Comparison.{comparison_of};
 
 // What two linear forms are to each other.
-#[derive(Drop)]
+#[derive(Clone, Copy)]
 pub enum FormComparison {
     Same,
     Different,

@@ -17,7 +17,7 @@ use model::Comparison;
 use term_walks::Closed;
 
 // The premises of a rule on a claim a ~ b, m being the rule's argument.
-#[derive(Drop)]
+#[derive(Clone, Copy)]
 pub enum Shape {
     // b ~ a
     Exchanged,

@@ -9,7 +9,7 @@ use limits::MOST_REGIONS;
 use model::{Instruction, Region};
 
 // What a step comes to: the counter to go on at, or why the run ends.
-#[derive(Drop)]
+#[derive(Clone, Copy)]
 pub enum Progress {
     Next(usize),
     Returned,

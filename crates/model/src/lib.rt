@@ -2,7 +2,7 @@
 #![tactic(auto)]
 
 // The kinds of comparison, in the order of their tags: 0, 1, 2, 3.
-#[derive(Drop)]
+#[derive(Clone, Copy)]
 pub enum Comparison {
     Equal,
     Unequal,
@@ -12,7 +12,7 @@ pub enum Comparison {
 
 // A decoded instruction: a case for each operation, in the order of the operations' numbers.
 // d, a and b are registers, i is the immediate.
-#[derive(Drop)]
+#[derive(Clone, Copy)]
 pub enum Instruction {
     // d := i
     Set { d: u8, i: u32 },
@@ -40,7 +40,7 @@ pub enum Instruction {
 }
 
 // A region of memory; its rights are 1 read, 2 write, 3 both.
-#[derive(Drop)]
+#[derive(Clone, Copy)]
 pub struct Region {
     pub base: u32,
     pub size: u32,
@@ -48,7 +48,7 @@ pub struct Region {
 }
 
 // The policy's fields before its arrays: how many regions and atoms there are, M, and the step limit N.
-#[derive(Drop)]
+#[derive(Clone, Copy)]
 pub struct Sizes {
     pub regions: usize,
     pub precondition: usize,
@@ -58,7 +58,7 @@ pub struct Sizes {
 }
 
 // The package's header: instruction count n, annotation count, and the lengths in bytes of the annotation section and the proof.
-#[derive(Drop)]
+#[derive(Clone, Copy)]
 pub struct Header {
     pub instructions: usize,
     pub annotations: usize,
@@ -67,7 +67,7 @@ pub struct Header {
 }
 
 // Why an input is refused: a case for each number of document 01 from 1 to 19, in their order, with its place where that is not always 0.
-#[derive(Drop)]
+#[derive(Clone, Copy)]
 pub enum Refusal {
     // the workspace is under 16,384 words
     SmallWorkspace,
@@ -105,7 +105,7 @@ pub enum Refusal {
 }
 
 // The checker's answer.
-#[derive(Drop)]
+#[derive(Clone, Copy)]
 pub struct Verdict {
     pub number: u32,
     pub place: usize,
@@ -113,14 +113,14 @@ pub struct Verdict {
 }
 
 // The finder's companion answer.
-#[derive(Drop)]
+#[derive(Clone, Copy)]
 pub struct Finding {
     pub number: u32,
     pub place: usize,
 }
 
 // The runner's answer.
-#[derive(Drop)]
+#[derive(Clone, Copy)]
 pub struct Outcome {
     pub number: u32,
     pub place: usize,

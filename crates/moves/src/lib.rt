@@ -8,7 +8,7 @@ use model::Refusal;
 use paths::Path;
 
 // What comes of an instruction: the path goes on, or has ended, or the refusal and the goals derived by then.
-#[derive(Drop)]
+#[derive(Clone, Copy)]
 pub enum MovedAnswer {
     On(Progress),
     Ended(Progress),
@@ -16,7 +16,7 @@ pub enum MovedAnswer {
 }
 
 // The answer, and the path where it goes on.
-#[derive(Drop)]
+#[derive(Clone, Copy)]
 pub struct Moved {
     pub path: Path,
     pub answer: MovedAnswer,

@@ -12,7 +12,7 @@ use limits::MOST_TERM_NODES;
 use workspace::TABLE;
 
 // A node of the table: an operation names its parts by node number; a shift has its count first.
-#[derive(Drop)]
+#[derive(Clone, Copy)]
 pub enum Node {
     Constant(u32),
     Variable(u32),

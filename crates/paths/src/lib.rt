@@ -11,7 +11,7 @@ use limits::REGISTERS;
 
 // A path of a block: where it has come to, instructions run, variables so far, assumptions so far, the top of the term table, and each
 // register's node.
-#[derive(Drop)]
+#[derive(Clone, Copy)]
 pub struct Path {
     pub counter: usize,
     pub steps: usize,

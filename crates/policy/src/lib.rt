@@ -12,14 +12,14 @@ use policy_regions::RegionsAnswer;
 use policy_sizes::SizesAnswer;
 
 // The policy passed, or why it is refused.
-#[derive(Drop)]
+#[derive(Clone, Copy)]
 pub enum PolicyAnswer {
     Passed,
     Refused(Refusal),
 }
 
 // A policy that passed checks 3 to 6. Its regions are the first `count`. Each condition is so many atoms from a position of the policy's bytes on.
-#[derive(Drop)]
+#[derive(Clone, Copy)]
 pub struct Policy {
     pub memory: u32,
     pub limit: u32,
@@ -32,14 +32,14 @@ pub struct Policy {
 }
 
 // The answer on a policy, and the policy where it passed.
-#[derive(Drop)]
+#[derive(Clone, Copy)]
 pub struct PolicyRead {
     pub answer: PolicyAnswer,
     pub policy: Policy,
 }
 
 // A position among the atoms, or why the policy is refused.
-#[derive(Drop)]
+#[derive(Clone, Copy)]
 enum ConditionAnswer {
     Passed(usize),
     Refused(Refusal),

@@ -9,14 +9,14 @@ use limits::MOST_REGIONS;
 use model::{Refusal, Region, Sizes};
 
 // The regions passed, or why the policy is refused.
-#[derive(Drop)]
+#[derive(Clone, Copy)]
 pub enum RegionsAnswer {
     Passed,
     Refused(Refusal),
 }
 
 // The answer on the regions, and the array that holds them.
-#[derive(Drop)]
+#[derive(Clone, Copy)]
 pub struct RegionsRead {
     pub answer: RegionsAnswer,
     pub regions: [Region; MOST_REGIONS],

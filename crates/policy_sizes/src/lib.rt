@@ -14,14 +14,14 @@ const REGION_COUNT: u32 = MOST_REGIONS as u32;
 const ATOM_COUNT: u32 = MOST_ATOMS as u32;
 
 // A field of the sizes, or why the policy is refused.
-#[derive(Drop)]
+#[derive(Clone, Copy)]
 enum FieldAnswer {
     Passed(u32),
     Refused(Refusal),
 }
 
 // The sizes, or why the policy is refused.
-#[derive(Drop)]
+#[derive(Clone, Copy)]
 pub enum SizesAnswer {
     Passed(Sizes),
     Refused(Refusal),

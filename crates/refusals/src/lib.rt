@@ -8,7 +8,7 @@ ghost use Rattle.model.specs.Verdict.{refusing};
 use model::{Refusal, Verdict};
 
 // A refusal's number in document 01, and its place.
-#[derive(Drop)]
+#[derive(Clone, Copy)]
 struct Answer(u32, usize);
 
 // Each refusal's number and place; 0 where there is no place.

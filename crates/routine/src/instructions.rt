@@ -8,7 +8,7 @@ use decoding::Decoded;
 use limits::MOST_INSTRUCTIONS;
 use model::{Header, Instruction, Refusal};
 
-#[derive(Drop)]
+#[derive(Clone, Copy)]
 pub enum InstructionAnswer {
     Passed(Instruction),
     Refused(Refusal),
@@ -32,7 +32,7 @@ pub fn instruction(bytes: &[u8], header: Header, index: usize) -> InstructionAns
     InstructionAnswer::Refused(Refusal::BadTarget(index))
 }
 
-#[derive(Drop)]
+#[derive(Clone, Copy)]
 pub enum CodeAnswer {
     Passed,
     Refused(Refusal),
@@ -55,13 +55,13 @@ pub fn check_code(bytes: &[u8], header: Header) -> CodeAnswer
 }
 
 // A place for an instruction in an array.
-#[derive(Drop)]
+#[derive(Clone, Copy)]
 pub struct Line {
     pub instruction: Instruction,
 }
 
 // What reading the code gives: the instructions stand in the first lines where it passes.
-#[derive(Drop)]
+#[derive(Clone, Copy)]
 pub struct CodeRead {
     pub answer: CodeAnswer,
     pub code: [Line; MOST_INSTRUCTIONS],

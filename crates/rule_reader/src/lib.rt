@@ -13,7 +13,7 @@ use model::Refusal;
 use term_reader;
 
 // What stands after a rule byte.
-#[derive(Drop)]
+#[derive(Clone, Copy)]
 pub enum Form {
     Plain,
     Index,
@@ -24,7 +24,7 @@ pub enum Form {
 
 // A rule with the number of its argument (an assumption's index, a region's number or a node), the next position and the table's new
 // top; or a refusal.
-#[derive(Drop)]
+#[derive(Clone, Copy)]
 pub enum Opened {
     Rule {
         number: usize,

@@ -13,7 +13,7 @@ use routine::instructions;
 use routine::instructions::InstructionAnswer;
 use search::Found;
 
-#[derive(Drop)]
+#[derive(Clone, Copy)]
 pub enum TargetsAnswer {
     Passed,
     Refused(Refusal),

@@ -9,7 +9,7 @@ ghost use Rattle.term_walks.specs.Closed.{closed_value, leaf_number};
 use terms;
 
 // The value of a term without variables.
-#[derive(Drop)]
+#[derive(Clone, Copy)]
 pub enum Closed {
     Value(u32),
     Open,
