@@ -3,4 +3,4 @@ use Rattle.fields.proofs.add.Goals as goal
 
 pub returns : goal.returns
 unfolding add_w
-returns c = c.wrapping_add_u32.ensures
+returns c = c.wrapping_add_u32.ensures.value

@@ -5,4 +5,4 @@ use Rattle.fields.proofs.sub.Goals as goal
 
 pub returns : goal.returns
 unfolding add_w
-returns c = laws.sub_only _ _ _ (omega arith) (omega arith) (omega arith) c.wrapping_sub_u32.ensures
+returns c = laws.sub_only _ _ _ (omega arith) (omega arith) (omega arith) c.wrapping_sub_u32.ensures.value
