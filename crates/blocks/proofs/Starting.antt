@@ -189,7 +189,7 @@ module _ {ws source : List ℕ} {path : Path} {end at number : ℕ} (y : Fresh w
             found.above.inside,
             (
               (omega (arith, y.few), omega (arith, y.space.fits, found.above.few), omega (arith, y.space.words)),
-              (found.left-node.below, found.right-node.below),
+              (found.left_node.below, found.right_node.below),
             ),
           )
 

@@ -110,7 +110,7 @@ module _ {ws words bytes source : List ℕ} {count : ℕ} {path : Path} {p : Pro
       found = atom_found y.inside l read f
 
       pub atom_asks : Going us words bytes count derivation_room m p × ClaimIn us m (AtomClaim kind left right)
-      atom_asks = raised_asks (omega arith) y found.above e l found.left-node found.right-node
+      atom_asks = raised_asks (omega arith) y found.above e l found.left_node found.right_node
 
       module _ {vs : List ℕ} {r : Judged} (g : GoalJudged us vs bytes (regions_of words count) m.top (path_of us m) p r (claim_of us (AtomClaim kind left right))) where
         -- the goal of the first atom

@@ -1,6 +1,6 @@
 -- The laws of the header, one for each way out of its reader. Assumes nothing.
 use mathlib.Core.Path.{◌≡◌, sym, subst}
-use mathlib.Core.Bool.{true, false, not, ◌&&◌, and-false, and-eq-true_iff}
+use mathlib.Core.Bool.{true, false, ◌&&◌, and-false, and-eq-true_iff}
 use mathlib.Core.List.{List, []}
 use native.Mathlib.Omega.{arith}
 use Prim.Native.Nat.{ℕ, ◌+◌, ◌-◌, ◌*◌, ◌≤◌, ◌<◌, min}
@@ -8,7 +8,7 @@ use native.Mathlib.Nat.{min-eq_left, min-eq_right}
 use lib.ListN.{length, take, drop, length-drop}
 use lib.Seq.{take_all}
 use lib.Dec.{leb, eqb}
-use borrow.Author.Tests.{le-leb, lt-leb, eq-eqb, ne_eqb, leb-true, not-true, not-false}
+use borrow.Author.Tests.{le-leb, lt-leb, eq-eqb, ne_eqb, leb-true}
 use Rattle.model.specs.Result.{stop, value, check, ◌>>=◌}
 use Rattle.model.specs.Word.{le16, le32}
 use Rattle.model.specs.Refusal.{number_of, place_of}
@@ -31,19 +31,19 @@ module _ (bytes : List ℕ) where
   short h = refused _ (rw (lt-leb 12 (length bytes) h, read_header))
 
   module _ (l : 12 ≤ length bytes) (n : ℕ) (en : n ≡ le16 bytes 0) where
-    pub miscounted : not (leb 1 n && leb n most_instructions) ≡ true → HeaderRead bytes (Refused (BadHeader 0))
+    pub miscounted : (leb 1 n && leb n most_instructions) ≡ false → HeaderRead bytes (Refused (BadHeader 0))
     unfolding read_header ◌>>=◌ check
-    miscounted c = refused _ (rw (le-leb 12 (length bytes) l, ← en, not-true (leb 1 n && leb n most_instructions) c, read_header))
+    miscounted c = refused _ (rw (le-leb 12 (length bytes) l, ← en, c, read_header))
 
-    module _ (c : not (leb 1 n && leb n most_instructions) ≡ false) (m : ℕ) (em : m ≡ le16 bytes 2) where
+    module _ (c : (leb 1 n && leb n most_instructions) ≡ true) (m : ℕ) (em : m ≡ le16 bytes 2) where
       pub overnoted : most_annotations < m → HeaderRead bytes (Refused (BadHeader 2))
       unfolding read_header ◌>>=◌ check
-      overnoted k = refused _ (rw (le-leb 12 (length bytes) l, ← en, not-false (leb 1 n && leb n most_instructions) c, ← em, lt-leb m most_annotations k, read_header))
+      overnoted k = refused _ (rw (le-leb 12 (length bytes) l, ← en, c, ← em, lt-leb m most_annotations k, read_header))
 
       module _ (k : m ≤ most_annotations) (s t : ℕ) (es : s ≡ le32 bytes 4) (et : t ≡ le32 bytes 8) where
         wrong : (eqb (length bytes) (12 + 8 * n + s + t) && leb (length bytes) most_bytes) ≡ false → HeaderRead bytes (Refused (BadHeader (min (length bytes) most_bytes)))
         unfolding read_header ◌>>=◌ check
-        wrong x = refused _ (rw (le-leb 12 (length bytes) l, ← en, not-false (leb 1 n && leb n most_instructions) c, ← em, le-leb m most_annotations k, ← es, ← et, x, read_header))
+        wrong x = refused _ (rw (le-leb 12 (length bytes) l, ← en, c, ← em, le-leb m most_annotations k, ← es, ← et, x, read_header))
 
         pub long : most_bytes < length bytes → HeaderRead bytes (Refused (BadHeader most_bytes))
         long h = rw (min-eq_right {n = most_bytes} {m = length bytes} (omega arith)) at (wrong (rw (lt-leb (length bytes) most_bytes h, and-false)))
@@ -54,7 +54,7 @@ module _ (bytes : List ℕ) where
         pub good : length bytes ≤ most_bytes → length bytes ≡ 12 + 8 * n + s + t → HeaderRead bytes (Passed (record { instructions = n; annotations = m; section = s; proof = t }))
         unfolding read_header ◌>>=◌ check header_result FitsIfPassed
         good h e =
-            let b : (leb 1 n && leb n most_instructions) ≡ true = not-false (leb 1 n && leb n most_instructions) c in
+            let b : (leb 1 n && leb n most_instructions) ≡ true = c in
             record {
               is = rw (le-leb 12 (length bytes) l, ← en, b, ← em, le-leb m most_annotations k, ← es, ← et, eq-eqb (length bytes) (12 + 8 * n + s + t) e, le-leb (length bytes) most_bytes h, read_header);
               fits = record { some = leb-true 1 n ((and-eq-true_iff (leb 1 n) (leb n most_instructions)).0 b).0; few = leb-true n most_instructions ((and-eq-true_iff (leb 1 n) (leb n most_instructions)).0 b).1; noted = k; whole = sym e; small = h };

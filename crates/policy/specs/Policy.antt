@@ -37,9 +37,9 @@ module _ (bytes : List ℕ) where
   -- what holds of a policy that passed
   pub record Checked (p : Policy) : Type 0 where
     pub some_regions : 1 ≤ p.count
-    pub few_regions : p.count ≤ model.mostRegions
+    pub few_regions : p.count ≤ model.most_regions
     pub some_memory : 1 ≤ p.memory
-    pub small_memory : p.memory ≤ model.mostMemory
+    pub small_memory : p.memory ≤ model.most_memory
     pub few_precondition : p.precondition_atoms ≤ most_atoms
     pub few_postcondition : p.postcondition_atoms ≤ most_atoms
     pub inside : p.precondition ≤ length bytes
@@ -50,15 +50,15 @@ module _ (bytes : List ℕ) where
 
   -- what is owed for a policy: the definition's result, and what holds of it where it passed
   pub record PolicyReads (r : PolicyRead) : Type 0 where
-    pub answer : policy_result r ≡ model.readPolicy bytes
+    pub answer : policy_result r ≡ model.read_policy bytes
     pub passed : r.answer ≡ Passed → Checked r.policy
 
   -- What a caller learns from each answer.
   module _ {r : PolicyRead} (R : PolicyReads r) where
-    pub policy_passed : r.answer ≡ Passed → model.readPolicy bytes ≡ value (policy_of r.policy)
+    pub policy_passed : r.answer ≡ Passed → model.read_policy bytes ≡ value (policy_of r.policy)
     unfolding policy_result answered
     policy_passed e = sym (rw e at R.answer)
 
-    pub policy_refused : {x : Refusal} → r.answer ≡ Refused x → model.readPolicy bytes ≡ stop x
+    pub policy_refused : {x : Refusal} → r.answer ≡ Refused x → model.read_policy bytes ≡ stop x
     unfolding policy_result answered
     policy_refused e = sym (rw e at R.answer)

@@ -8,7 +8,7 @@ unfolding premises
 returns-in_default c = no_sides _ c.requires.formed (sides_told c.sides.ensures c.in_default.is) c.unfit.ensures
 
 pub same_operation-requires : goal.same_operation-requires
-same_operation-requires c = let h = let j = (sides_told c.sides.ensures c.in-Nodes.is).below _ c.requires.claim_below in (formed_at c.requires.formed j.0, formed_at c.requires.formed j.1) in record { formed = h.0; formed_2 = h.1 }
+same_operation-requires c = let j = (sides_told c.sides.ensures c.in-Nodes.is).below _ c.requires.claim_below in record { formed = formed_at c.requires.formed j.0; formed_2 = formed_at c.requires.formed j.1 }
 
 pub returns-in-Pairs : goal.returns-in-Pairs
 returns-in-Pairs c = pairs_fit c.requires.formed c.requires.claim_below (sides_told c.sides.ensures c.in-Nodes.is) (congruent_told c.same_operation.ensures c.in-Pairs.is) c.compared.ensures c.compared-in-Pairs.ensures c.two.ensures

@@ -19,7 +19,7 @@ unfolding premises
 returns-in_default-operands c = no_parts _ _ c.requires.formed (sides_told c.sides.ensures c.in-Nodes.is) (operands_told c.operands.ensures c.in_default-operands.is).is c.unfit-in_default-operands.ensures
 
 pub same-requires : goal.same-requires
-same-requires c = let h = let j = (sides_told c.sides.ensures c.in-Nodes.is).below _ c.requires.claim_below in (formed_at c.requires.formed j.0, part (formed_at c.requires.formed j.1) (operands_told c.operands.ensures c.in-Nodes-operands.is).below.0) in record { formed = h.0; formed_2 = h.1 }
+same-requires c = let j = (sides_told c.sides.ensures c.in-Nodes.is).below _ c.requires.claim_below in record { formed = formed_at c.requires.formed j.0; formed_2 = part (formed_at c.requires.formed j.1) (operands_told c.operands.ensures c.in-Nodes-operands.is).below.0 }
 
 pub put_difference-requires : goal.put_difference-requires
 put_difference-requires c = let h = put_asks_parts c.requires.space c.put_constant.ensures c.put_constant.auto.ws _ _ (omega arith) (omega (arith, (operands_told c.operands.ensures c.in-Nodes-operands.is).below.1, ((sides_told c.sides.ensures c.in-Nodes.is).below _ c.requires.claim_below).1)) in record { formed = h.0; space = h.1.0; left_lt_top = h.1.1 }

@@ -1,3 +1,4 @@
+use borrow.Enum.Refused.{opened}
 use Rattle.paths.proofs.Walking.{path_ready}
 use Rattle.arrivals.proofs.Arriving.{arrival_unread, arrival_asks, arrival_stopped, owed_asks, arrival_judged}
 use native.Mathlib.Omega.{arith}
@@ -8,7 +9,7 @@ pub expression-read-requires : goal.expression-read-requires
 expression-read-requires c = record { end_in_bounds = (c.requires.end_in_bounds.0, omega arith); ready = path_ready most_nodes (omega arith) c.requires.going.inside c.requires.going.space }
 
 pub returns-in_default : goal.returns-in_default
-returns-in_default c = arrival_unread c.expression-read.result c.expression-read.ensures c.in_default.in_default-own.keys2
+returns-in_default c = arrival_unread c.expression-read.result c.expression-read.ensures (opened c.in_default.in_default-own.keys2)
 
 pub atoms-first-requires : goal.atoms-first-requires
 atoms-first-requires c = record { end_in_bounds = c.requires.end_in_bounds.0; going = arrival_asks c.args.at c.requires.going c.requires.node_in c.expression-read.auto.ws c.expression-read.ensures c.in-Term.is c.raised-inner.ensures }

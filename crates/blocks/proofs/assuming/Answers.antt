@@ -3,7 +3,7 @@ use Rattle.blocks.proofs.Starting.{assumed}
 use Rattle.blocks.proofs.assuming.Goals as goal
 
 pub push-requires : goal.push-requires
-push-requires c = let h = let b = c.requires.left_lt_top in (c.requires.assumptions_lt_most_assumptions, ((c.requires.path_in.prepared 0).assumed, (omega (arith, b.0, b.1), omega (arith, b.0, b.1)))) in record { count_lt_most_assumptions = h.0; listed = h.1.0; left_lt_top = h.1.1 }
+push-requires c = let b = c.requires.left_lt_top in record { count_lt_most_assumptions = c.requires.assumptions_lt_most_assumptions; listed = (c.requires.path_in.prepared 0).assumed; left_lt_top = (omega (arith, b.0, b.1), omega (arith, b.0, b.1)) }
 
 pub returns : goal.returns
 returns c = assumed c.requires.path_in c.requires.assumptions_lt_most_assumptions.0 c.push.ensures c.push.auto.ws

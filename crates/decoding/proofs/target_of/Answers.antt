@@ -1,3 +1,4 @@
+use borrow.Enum.Refused.{opened}
 use mathlib.Core.Path.{ap, sym}
 use Rattle.model.specs.Instruction.{target_of}
 use Rattle.decoding.specs.Decoding.{target_option}
@@ -18,4 +19,4 @@ returns-in-JumpEqual c = ap target_of (sym c.in-JumpEqual.is)
 
 pub returns-in_default : goal.returns-in_default
 unfolding target_option target_of
-returns-in_default c = no_target c.args.instruction c.in_default.in_default-own.keys4
+returns-in_default c = no_target c.args.instruction (opened c.in_default.in_default-own.keys4)

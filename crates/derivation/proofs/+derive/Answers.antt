@@ -13,7 +13,7 @@ pub loop-due-init : goal.loop-due-init
 loop-due-init t c = rule_applied c.requires c.if-levels-eq0.false c.apply.ensures c.in-Premises.is c.apply.auto.ws
 
 pub derive-requires : goal.derive-requires
-derive-requires t c = (omega (arith, c.requires.measure, c.if-levels-eq0.false), premise_asks c.loop-due.invariant c.loop-due-test.true c.first-premise.ensures)
+derive-requires t c = (omega (arith, c.decreases, c.if-levels-eq0.false), premise_asks c.loop-due.invariant c.loop-due-test.true c.first-premise.ensures)
 
 pub returns-in-Refused-derive : goal.returns-in-Refused-derive
 returns-in-Refused-derive t c = premise_refused c.requires c.if-levels-eq0.false c.apply.ensures c.in-Premises.is c.loop-due.invariant c.loop-due-test.true c.first-premise.ensures c.derive.ensures c.in-Refused-derive.is

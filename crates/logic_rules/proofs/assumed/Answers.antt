@@ -1,3 +1,4 @@
+use borrow.Enum.Refused.{opened}
 use Rattle.logic_rules.proofs.LogicLaws.{assumption_asks, assumption_differs, assumption_fits, assumption_past}
 use Rattle.claims.proofs.PlanLaws.{not_atom}
 use Rattle.model.specs.Rule.{premises}
@@ -5,7 +6,7 @@ use Rattle.logic_rules.proofs.assumed.Goals as goal
 
 pub returns-in_default : goal.returns-in_default
 unfolding premises
-returns-in_default c = not_atom c.args.claim _ c.requires.formed c.in_default.in_default-own.keys2 c.unfit.ensures
+returns-in_default c = not_atom c.args.claim _ c.requires.formed (opened c.in_default.in_default-own.keys2) c.unfit.ensures
 
 pub returns-then-count-index : goal.returns-then-count-index
 returns-then-count-index c = assumption_past _ _ c.requires.formed _ c.in-Atom.is c.if-count-index.true c.unfit-then-count-index.ensures

@@ -1,3 +1,4 @@
+use borrow.Enum.Refused.{opened}
 use mathlib.Core.Path.{◌∙◌, sym}
 use Rattle.logic_rules.proofs.LogicLaws.{evaluation_fails, evaluation_fits, evaluation_left, evaluation_right}
 use Rattle.claims.proofs.PlanLaws.{formed_at, not_atom, told_below}
@@ -6,7 +7,7 @@ use Rattle.logic_rules.proofs.evaluated.Goals as goal
 
 pub returns-in_default : goal.returns-in_default
 unfolding premises
-returns-in_default c = not_atom c.args.claim _ c.requires.formed c.in_default.in_default-own.keys2 c.unfit.ensures
+returns-in_default c = not_atom c.args.claim _ c.requires.formed (opened c.in_default.in_default-own.keys2) c.unfit.ensures
 
 pub evaluate-requires : goal.evaluate-requires
 evaluate-requires c = formed_at c.requires.formed (told_below _ c.in-Atom.is c.requires.claim_below).0

@@ -8,7 +8,7 @@ unfolding reflexive_premises
 returns-in_default c = no_sides _ c.requires.formed (sides_told c.sides.ensures c.in_default.is) c.unfit.ensures
 
 pub same-requires : goal.same-requires
-same-requires c = let h = let j = (sides_told c.sides.ensures c.in-Nodes.is).below _ c.requires.claim_below in (formed_at c.requires.formed j.0, formed_at c.requires.formed j.1) in record { formed = h.0; formed_2 = h.1 }
+same-requires c = let j = (sides_told c.sides.ensures c.in-Nodes.is).below _ c.requires.claim_below in record { formed = formed_at c.requires.formed j.0; formed_2 = formed_at c.requires.formed j.1 }
 
 pub returns-then-same : goal.returns-then-same
 unfolding reflexive_premises

@@ -41,10 +41,10 @@ pub read_variable-requires : goal.read_variable-requires
 read_variable-requires t c = record { at_lt_end = (c.if-end-at.false, c.requires.end_in_bounds.0, omega (arith, c.if-left-eq0.false)); limit_le_most_variables = c.requires.end_in_bounds.1; ready = c.requires.ready }
 
 pub read_shift-requires : goal.read_shift-requires
-read_shift-requires t c = record { end_in_bounds = omega (arith, c.requires.measure); ready = c.requires.end_in_bounds; at_lt_end = c.requires.ready; at_value = ((c.if-end-at.false, omega (arith, c.if-left-eq0.false)), c.in-5.is) }
+read_shift-requires t c = record { end_in_bounds = omega (arith, c.decreases); ready = c.requires.end_in_bounds; at_lt_end = c.requires.ready; at_value = ((c.if-end-at.false, omega (arith, c.if-left-eq0.false)), c.in-5.is) }
 
 pub read_pair-requires : goal.read_pair-requires
-read_pair-requires t c = record { end_in_bounds = omega (arith, c.requires.measure); ready = c.requires.end_in_bounds; at_lt_end = c.requires.ready; tag_value = ((c.if-end-at.false, omega (arith, c.if-left-eq0.false)), (refl, omega (arith, c.in_default-1.rest.0.0.1, c.in_default-1.rest.0.1), c.in-2-to-4.if-tag-lt5-own.true)) }
+read_pair-requires t c = record { end_in_bounds = omega (arith, c.decreases); ready = c.requires.end_in_bounds; at_lt_end = c.requires.ready; tag_value = ((c.if-end-at.false, omega (arith, c.if-left-eq0.false)), (refl, omega (arith, c.in_default-1.rest.0.0.1, c.in_default-1.rest.0.1), c.in-2-to-4.if-tag-lt5-own.true)) }
 
 pub returns-in-0 : goal.returns-in-0
 returns-in-0 t c = read_form c.requires.ready c.if-end-at.false (omega (arith, c.if-left-eq0.false)) 0 c.in-0.is refl c.read_constant.ensures

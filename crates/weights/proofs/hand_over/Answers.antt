@@ -7,7 +7,7 @@ pub weighs-requires : goal.weighs-requires
 weighs-requires c = settle_room c.requires
 
 pub returns-then-not-weighs : goal.returns-then-not-weighs
-returns-then-not-weighs c = settled_none c.weighs.ensures (not-true _ c.if-not-weighs.true)
+returns-then-not-weighs c = settled_none c.weighs.ensures c.if-not-weighs.true
 
 pub value-w-requires : goal.value-w-requires
 value-w-requires c = settle_room c.requires
@@ -19,7 +19,7 @@ pub set_value-requires : goal.set_value-requires
 set_value-requires c = omega (arith, settle_room c.requires, c.partner-j.auto.ws)
 
 pub returns-then-j-last : goal.returns-then-j-last
-returns-then-j-last c = settled_alone c.weighs.ensures (not-false _ c.if-not-weighs.false) c.value-w.ensures (omega arith) c.partner-j.ensures c.partner-j.auto.ws c.set_value.ensures c.if-j-last.true
+returns-then-j-last c = settled_alone c.weighs.ensures c.if-not-weighs.false c.value-w.ensures (omega arith) c.partner-j.ensures c.partner-j.auto.ws c.set_value.ensures c.if-j-last.true
 
 pub value-requires : goal.value-requires
 value-requires c = omega (arith, settle_room c.requires, (c.partner-j.ensures.paired c.if-j-last.false).0)
@@ -28,4 +28,4 @@ pub set_value-requires-2 : goal.set_value-requires-2
 set_value-requires-2 c = omega (arith, settle_room c.requires, (c.partner-j.ensures.paired c.if-j-last.false).0)
 
 pub returns : goal.returns
-returns c = settled_paired c.weighs.ensures (not-false _ c.if-not-weighs.false) c.value-w.ensures (omega arith) c.partner-j.ensures c.partner-j.auto.ws c.set_value.ensures c.if-j-last.false c.value.ensures (rw (← c.add.ensures) c.set_value-2.ensures)
+returns c = settled_paired c.weighs.ensures c.if-not-weighs.false c.value-w.ensures (omega arith) c.partner-j.ensures c.partner-j.auto.ws c.set_value.ensures c.if-j-last.false c.value.ensures (rw (← c.add.ensures) c.set_value-2.ensures)

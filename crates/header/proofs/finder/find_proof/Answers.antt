@@ -16,7 +16,7 @@ pub slice_bounds-result-end : goal.slice_bounds-result-end
 slice_bounds-result-end c = omega (arith, start_inside c.read_header-answer.ensures c.in-Passed.is _ c.proof_start-start.ensures)
 
 pub returns-in-Passed : goal.returns-in-Passed
-returns-in-Passed c = let k = proof_part c.read_header-answer.ensures c.in-Passed.is _ c.proof_start-start.ensures in (k.0, (refl, omega (arith, k.1)))
+returns-in-Passed c = let k = proof_part c.read_header-answer.ensures c.in-Passed.is _ c.proof_start-start.ensures in record { contents = k.0; position = (refl, omega (arith, k.1)) }
 
 pub returns-in-Refused : goal.returns-in-Refused
-returns-in-Refused c = let k = no_part c.read_header-answer.ensures c.in-Refused.is in (k.0, (refl, omega (arith, k.1)))
+returns-in-Refused c = let k = no_part c.read_header-answer.ensures c.in-Refused.is in record { contents = k.0; position = (refl, omega (arith, k.1)) }

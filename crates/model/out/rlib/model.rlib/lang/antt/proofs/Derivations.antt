@@ -38,11 +38,11 @@ module _ (bytes : List ℕ) (policy : Policy) (fit : RegionsFit policy) (g : Goa
   -- a rule is sound with each argument that is read
   argument_read : (p : ℕ) (format : Format) → FormatSound policy fit g env words assumed format
       → Gives (λ (r : Rule × ℕ). SoundRule policy fit g env words assumed r.0) (elim format as (λ _. Result Refusal (Rule × ℕ)) [
-          | plain rule ↦ value (rule, p + 1)
-          | with_index rule ↦ proof_field bytes (half_at bytes (length bytes) (p + 1)) >>= λ index. value (rule index, p + 3)
-          | with_term rule ↦ proof_field bytes (expression_at bytes (length bytes) g.variables (p + 1)) >>= λ (m, q). value (rule m, q)
-          | with_region rule ↦ proof_field bytes (byte_at bytes (length bytes) (p + 1)) >>= λ j. value (rule j, p + 2)
-        ])
+        | plain rule ↦ value (rule, p + 1)
+        | with_index rule ↦ proof_field bytes (half_at bytes (length bytes) (p + 1)) >>= λ index. value (rule index, p + 3)
+        | with_term rule ↦ proof_field bytes (expression_at bytes (length bytes) g.variables (p + 1)) >>= λ (m, q). value (rule m, q)
+        | with_region rule ↦ proof_field bytes (byte_at bytes (length bytes) (p + 1)) >>= λ j. value (rule j, p + 2)
+      ])
   argument_read p (plain rule) sound = gives sound
   argument_read p (with_index rule) sound = gives_next λ index _. gives (sound index)
   argument_read p (with_term rule) sound = gives_next λ r _. gives (sound r.0)

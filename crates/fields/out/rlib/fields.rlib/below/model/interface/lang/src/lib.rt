@@ -1,0 +1,1 @@
+# [ derive ( Clone , Copy ) ] pub enum Comparison { Equal , Unequal , Less , AtMost , }

@@ -1,0 +1,12 @@
+# [ read_as = "4edb2ec6606374b0bdbbddb82dbc6db78c550409e6e55805a0cc6a68bf97a903" ] pub const MOST_INSTRUCTIONS : usize = 256 ;
+# [ read_as = "0ed584c75a3cd1df988dcc4d430e152ea117b0bf69d6279ce293e8f97fb9f282" ] pub const MOST_ANNOTATIONS : usize = 64 ;
+# [ read_as = "6553b8b5787f4338ca677c11ca9316abd41670a38ba0600a9b1faa7cae0a2080" ] pub const MOST_BYTES : usize = 65536 ;
+# [ read_as = "210289deaf01ee6ce85d57d177afaebc8e5d9b681997fa13bdb20bee3b7d0d69" ] pub const MOST_REGIONS : usize = 8 ;
+# [ read_as = "f046cae2ecee86ac83da2da2e4358ba6f787d9f31a2c63c2a21b51a9d72c3b07" ] pub const MOST_ATOMS : usize = 16 ;
+# [ read_as = "fe1b7d6433151e3f320c4692cb5045841fcbf696c4bc5813b2503f1fd55372d2" ] pub const MOST_MEMORY : u32 = 16384 ;
+# [ read_as = "f046cae2ecee86ac83da2da2e4358ba6f787d9f31a2c63c2a21b51a9d72c3b07" ] pub const REGISTERS : usize = 16 ;
+# [ read_as = "9dae2248bff6bba5cf282b76cce98cf8dc4b9ad3b12c205102eff8aacc27e40f" ] pub const MOST_NODES : u32 = 31 ;
+# [ read_as = "9dae2248bff6bba5cf282b76cce98cf8dc4b9ad3b12c205102eff8aacc27e40f" ] pub const MOST_COUNT : u32 = 31 ;
+# [ read_as = "a8254672b82d2cc112672c6e0fcdd8127c9cb4030869919e6fcb52f0a27d4509" ] pub const MOST_TERM_NODES : u32 = 255 ;
+# [ read_as = "ba4d3a3b3b24974ea044c05c63f6920c8f65060a37f31a15674e8ee0d1269bc1" ] pub const MOST_LEVELS : usize = 32 ;
+# [ read_as = "dfe8e07df2379159cf00da416a450996b2b8236a472373ee09ad9b163dceade1" ] pub const LEAST_WORKSPACE : usize = 16384 ;
