@@ -1,1 +1,0 @@
-# [ derive ( Clone , Copy ) ] pub enum Comparison { Equal , Unequal , Less , AtMost , }
