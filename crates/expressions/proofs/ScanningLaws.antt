@@ -138,14 +138,14 @@ module _ (bytes : List ℕ) (end limit left at : ℕ) where
   unfolding nodes_at ◌>>=◌ scanned_of
   at_end h =
       let e = byte_missing bytes end at h in
-      record { answer = λ depth l. elim depth [ zero ↦ rw (e, nodes_at) | suc depth ↦ rw (e, nodes_at) ]; within = tt }
+      record { answer = λ depth l. elim depth as (λ k. Missing ≡ scanned_of (nodes_at bytes end limit k left at)) [ zero ↦ rw (e, nodes_at) | suc depth ↦ rw (e, nodes_at) ]; within = tt }
 
   pub no_node : at < end → left ≡ 0 → Scans bytes end limit left at (Fault at)
   unfolding nodes_at ◌>>=◌ scanned_of check
   no_node h z =
       let e = byte_there bytes end at h in
       record {
-        answer = λ depth l. elim depth [ zero ↦ rw (e, nodes_at) | suc depth ↦ rw (e, le-ltb 0 left (omega arith), nodes_at) ];
+        answer = λ depth l. elim depth as (λ k. Fault at ≡ scanned_of (nodes_at bytes end limit k left at)) [ zero ↦ rw (e, nodes_at) | suc depth ↦ rw (e, le-ltb 0 left (omega arith), nodes_at) ];
         within = tt;
       }
 

@@ -12,6 +12,7 @@ use model::{Refusal, Verdict};
 struct Answer(u32, usize);
 
 // Each refusal's number and place; 0 where there is no place.
+#[tactic(auto, unfolding(model::specs::Refusal::number_of, model::specs::Refusal::place_of))]
 fn answer_of(refusal: Refusal) -> Answer
     ensures { (result.0 ≡ number_of refusal) × (result.1 ≡ place_of refusal) }
 {

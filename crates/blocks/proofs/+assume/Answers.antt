@@ -19,7 +19,7 @@ pub assuming-more-requires : goal.assuming-more-requires
 assuming-more-requires t c = let h = assuming_asks c.requires.fresh c.if-number-eq0.false c.atom-read.auto.ws c.atom-read.ensures c.in-Atom.is c.raised.ensures in record { path_in = h.0; assumptions_lt_most_assumptions = h.1.0; left_lt_top = h.1.1 }
 
 pub assume-requires : goal.assume-requires
-assume-requires t c = let h = assume_asks c.requires.fresh c.if-number-eq0.false c.atom-read.auto.ws c.atom-read.ensures c.in-Atom.is c.raised.ensures c.assuming-more.ensures c.decreases c.requires.end_in_bounds c.assuming-more.auto.ws in record { end_in_bounds = h.0; fresh = h.1 }
+assume-requires t c = assume_asks c.requires.fresh c.if-number-eq0.false c.atom-read.auto.ws c.atom-read.ensures c.in-Atom.is c.raised.ensures c.assuming-more.ensures c.decreases c.requires.end_in_bounds c.assuming-more.auto.ws
 
 pub returns : goal.returns
 returns t c = assume_more c.requires.fresh c.if-number-eq0.false c.atom-read.auto.ws c.atom-read.ensures c.in-Atom.is c.raised.ensures c.assuming-more.ensures c.assume.ensures

@@ -1,4 +1,3 @@
-use borrow.Enum.Refused.{opened}
 use native.Mathlib.Omega.{arith}
 use Rattle.forms.proofs.Laws.{first, second, sum_parts, difference_parts, variable_within, not_opaque, accumulated_constant, accumulated_variable, accumulated_sum, accumulated_difference}
 use Prim.Native.Nat.{◌<◌}
@@ -32,4 +31,4 @@ pub returns-in-Difference : goal.returns-in-Difference
 returns-in-Difference t c = accumulated_difference c.requires c.view.ensures c.accumulate-in-Difference.ensures c.in-Difference.is c.accumulate-in-Difference-2.ensures
 
 pub returns-in_default : goal.returns-in_default
-returns-in_default t c = not_opaque c.requires c.view.ensures (opened c.in_default.in_default-own.keys5)
+returns-in_default t c = not_opaque c.requires c.view.ensures c.in_default.in_default-own.keys5

@@ -22,7 +22,7 @@ pub returns-in_default-first : goal.returns-in_default-first
 returns-in_default-first t c = atoms_stopped c.requires.going c.if-number-eq0.false c.atom-read.auto.ws c.atom-read.ensures c.in-Atom.is c.raised.ensures c.goal-first.ensures c.in_default-first.is
 
 pub atoms-requires : goal.atoms-requires
-atoms-requires t c = let h = others_ask c.requires.going c.if-number-eq0.false c.atom-read.auto.ws c.atom-read.ensures c.in-Atom.is c.raised.ensures c.goal-first.ensures c.in-Next.is c.decreases c.requires.end_in_bounds c.goal-first.auto.ws in record { end_in_bounds = h.0; going = h.1 }
+atoms-requires t c = others_ask c.requires.going c.if-number-eq0.false c.atom-read.auto.ws c.atom-read.ensures c.in-Atom.is c.raised.ensures c.goal-first.ensures c.in-Next.is c.decreases c.requires.end_in_bounds c.goal-first.auto.ws
 
 pub returns : goal.returns
 returns t c = atoms_more c.requires.going c.if-number-eq0.false c.atom-read.auto.ws c.atom-read.ensures c.in-Atom.is c.raised.ensures c.goal-first.ensures c.in-Next.is c.atoms.ensures

@@ -16,7 +16,7 @@ pub returns-then-tag-lt2 : goal.returns-then-tag-lt2
 returns-then-tag-lt2 t c = same_leaf c.requires.shaped c.requires.shaped_2 (eqb-true _ _ (sym c.alike.ensures ∙ c.if-not-alike.false)) c.tag-tag.ensures c.if-tag-lt2.true c.number.ensures c.number-then-tag-lt2.ensures
 
 pub equal-requires : goal.equal-requires
-equal-requires t c = let p = first_parts c.requires.shaped c.requires.shaped_2 (eqb-true _ _ (sym c.alike.ensures ∙ c.if-not-alike.false)) c.tag-tag.ensures (omega (arith, c.if-tag-lt2.false)) c.first.ensures c.first-2.ensures in (omega (arith, c.decreases, p.0), record { shaped = shaped_part c.requires.shaped p.0; shaped_2 = shaped_part c.requires.shaped_2 p.1 })
+equal-requires t c = let p = first_parts c.requires.shaped c.requires.shaped_2 (eqb-true _ _ (sym c.alike.ensures ∙ c.if-not-alike.false)) c.tag-tag.ensures (omega (arith, c.if-tag-lt2.false)) c.first.ensures c.first-2.ensures in (omega (arith, c.decreases, p.0), (shaped_part c.requires.shaped p.0, shaped_part c.requires.shaped_2 p.1))
 
 pub returns-then-not-equal : goal.returns-then-not-equal
 returns-then-not-equal t c = first_differs c.requires.shaped c.requires.shaped_2 (eqb-true _ _ (sym c.alike.ensures ∙ c.if-not-alike.false)) c.tag-tag.ensures (omega (arith, c.if-tag-lt2.false)) c.first.ensures c.first-2.ensures c.equal.ensures c.if-not-equal.true
@@ -25,7 +25,7 @@ pub returns-then-tag-gt4 : goal.returns-then-tag-gt4
 returns-then-tag-gt4 t c = same_count c.requires.shaped c.requires.shaped_2 (eqb-true _ _ (sym c.alike.ensures ∙ c.if-not-alike.false)) c.tag-tag.ensures (omega (arith, c.if-tag-lt2.false)) c.first.ensures c.first-2.ensures c.equal.ensures c.if-not-equal.false c.second-a.ensures.0 c.second-b.ensures.0 c.if-tag-gt4.true
 
 pub equal-requires-2 : goal.equal-requires-2
-equal-requires-2 t c = let p = second_parts c.requires.shaped c.requires.shaped_2 (eqb-true _ _ (sym c.alike.ensures ∙ c.if-not-alike.false)) c.tag-tag.ensures (omega (arith, c.if-tag-lt2.false)) c.first.ensures c.first-2.ensures c.equal.ensures c.if-not-equal.false c.second-a.ensures.0 c.second-b.ensures.0 (omega (arith, c.if-tag-gt4.false)) in (omega (arith, c.decreases, p.0), record { shaped = shaped_part c.requires.shaped p.0; shaped_2 = shaped_part c.requires.shaped_2 p.1 })
+equal-requires-2 t c = let p = second_parts c.requires.shaped c.requires.shaped_2 (eqb-true _ _ (sym c.alike.ensures ∙ c.if-not-alike.false)) c.tag-tag.ensures (omega (arith, c.if-tag-lt2.false)) c.first.ensures c.first-2.ensures c.equal.ensures c.if-not-equal.false c.second-a.ensures.0 c.second-b.ensures.0 (omega (arith, c.if-tag-gt4.false)) in (omega (arith, c.decreases, p.0), (shaped_part c.requires.shaped p.0, shaped_part c.requires.shaped_2 p.1))
 
 pub returns : goal.returns
 returns t c = same_second c.requires.shaped c.requires.shaped_2 (eqb-true _ _ (sym c.alike.ensures ∙ c.if-not-alike.false)) c.tag-tag.ensures (omega (arith, c.if-tag-lt2.false)) c.first.ensures c.first-2.ensures c.equal.ensures c.if-not-equal.false c.second-a.ensures.0 c.second-b.ensures.0 (omega (arith, c.if-tag-gt4.false)) c.equal-2.ensures

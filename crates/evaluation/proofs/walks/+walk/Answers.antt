@@ -17,7 +17,7 @@ pub arrive-arrived-requires : goal.arrive-arrived-requires
 arrive-arrived-requires t c = let h = after_asks c.requires.fixed _ c.requires.room_for c.requires.node_in (omega (arith, c.if-left-eq0.false)) c.fetch-instruction.ensures c.advance-moved.ensures c.in-On.is c.advance-moved.auto.ws in record { tables = h.0; going = h.1.0; node_in = h.1.1.0; counter_le_most_instructions = h.1.1.1 }
 
 pub walk-requires : goal.walk-requires
-walk-requires t c = (omega (arith, c.decreases, c.if-left-eq0.false), let h = (c.requires.fixed, walk_asks c.requires.fixed _ c.requires.room_for c.requires.node_in (omega (arith, c.if-left-eq0.false)) c.fetch-instruction.ensures c.advance-moved.ensures c.in-On.is c.advance-moved.auto.ws c.arrive-arrived.ensures c.arrive-arrived.auto.ws c.requires.left_value) in record { fixed = h.0; room_for = h.1.0; node_in = h.1.1.0; reached = h.1.1.1.0; left_value = h.1.1.1.1 })
+walk-requires t c = (omega (arith, c.decreases, c.if-left-eq0.false), (c.requires.fixed, walk_asks c.requires.fixed _ c.requires.room_for c.requires.node_in (omega (arith, c.if-left-eq0.false)) c.fetch-instruction.ensures c.advance-moved.ensures c.in-On.is c.advance-moved.auto.ws c.arrive-arrived.ensures c.arrive-arrived.auto.ws c.requires.left_value))
 
 pub shape_of-ws-in-At : goal.shape_of-ws-in-At
 shape_of-ws-in-At t c = c.arrive-arrived.auto.ws ∙ c.advance-moved.auto.ws
