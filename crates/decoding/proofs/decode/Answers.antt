@@ -26,7 +26,7 @@ pub returns-then-op-eq4 : goal.returns-then-op-eq4
 returns-then-op-eq4 c = passes 4 _ _ _ _ _ _ _ _ refl refl c.if-op-eq4.true c.if-d-a-6.true
 
 pub returns-then-d-a-6 : goal.returns-then-d-a-6
-returns-then-d-a-6 c = passes 5 _ _ _ _ _ _ _ _ refl refl (omega arith) c.if-d-a-6.true
+returns-then-d-a-6 c = passes 5 _ _ _ _ _ _ _ _ refl refl (the_next 4 _ (other _ c.in-4-to-5.in_default-own.rest).from4 (omega arith) c.if-op-eq4.false) c.if-d-a-6.true
 
 pub returns-then-op-eq7 : goal.returns-then-op-eq7
 returns-then-op-eq7 c = passes 7 _ _ _ _ _ _ _ _ refl refl c.if-op-eq7.true c.if-d-a-7.true
@@ -53,7 +53,7 @@ pub returns-else-d-a-5 : goal.returns-else-d-a-5
 returns-else-d-a-5 c = fails 9 _ _ _ _ _ _ _ _ refl refl c.in-9.is c.if-d-a-5.false
 
 pub returns-else-d-a-6 : goal.returns-else-d-a-6
-returns-else-d-a-6 c = ⊎_elim (λ e. fails 4 _ _ _ _ _ _ _ _ refl refl e c.if-d-a-6.false) (λ e. fails 5 _ _ _ _ _ _ _ _ refl refl e c.if-d-a-6.false) (one_of_two 4 _ (omega arith) (omega arith))
+returns-else-d-a-6 c = ⊎_elim (λ e. fails 4 _ _ _ _ _ _ _ _ refl refl e c.if-d-a-6.false) (λ e. fails 5 _ _ _ _ _ _ _ _ refl refl e c.if-d-a-6.false) (one_of_two 4 _ (other _ c.in-4-to-5.in_default-own.rest).from4 (omega arith))
 
 pub returns-else-d-a-7 : goal.returns-else-d-a-7
 returns-else-d-a-7 c = ⊎_elim (λ e. fails 7 _ _ _ _ _ _ _ _ refl refl e c.if-d-a-7.false) (λ e. fails 8 _ _ _ _ _ _ _ _ refl refl e c.if-d-a-7.false) (one_of_two 7 _ (omega arith) (omega arith))
