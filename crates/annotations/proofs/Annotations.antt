@@ -1,6 +1,6 @@
 -- The laws of one annotation, one for each way out of its reader. Assumes nothing.
 use mathlib.Core.Path.{◌≡◌, refl, sym, ap, subst, ◌∙◌}
-use mathlib.Core.Bool.{true, false, not, ◌&&◌, and-eq-true_iff}
+use mathlib.Core.Bool.{true, false, ◌&&◌, and-eq-true_iff}
 use mathlib.Core.List.{List, [], ◌∷◌}
 use native.Mathlib.Omega.{arith}
 use Prim.Native.Nat.{ℕ, ◌+◌, ◌≤◌, ◌<◌, max}
@@ -8,7 +8,7 @@ use types.Run.{OneOf, miss}
 use denote.Enum.Declared.{tag_of}
 use lib.ListN.{get_or}
 use lib.Dec.{leb, ltb}
-use borrow.Author.Tests.{le-leb, lt-leb, ltb-true, not-true, not-false}
+use borrow.Author.Tests.{le-leb, lt-leb, ltb-true}
 use Rattle.model.specs.Result.{Result, stop, value, ◌>>=◌, check, stop_as}
 use Rattle.model.specs.Word.{le16}
 use Rattle.model.specs.Term.{Term}
@@ -87,25 +87,25 @@ module _ (bytes : List ℕ) (h : Header) (lowest p end : ℕ) (ends : end ≡ pr
   no_index l = refused _ (rw (ends, lt-leb (p + 2) (proof_start h) (omega arith), annotation_from))
 
   module _ (two : p + 2 ≤ end) (index : ℕ) (ei : index ≡ le16 bytes p) where
-    pub bad_index : not (leb lowest index && ltb index h.instructions) ≡ true → AnnotationRead bytes h lowest p (one.Refused (BadAnnotation p))
+    pub bad_index : (leb lowest index && ltb index h.instructions) ≡ false → AnnotationRead bytes h lowest p (one.Refused (BadAnnotation p))
     unfolding annotation_from annotation_refusal half_at ◌>>=◌ check stop_as
-    bad_index t = refused _ (rw (le-leb (p + 2) (proof_start h) (omega arith), ← ei, not-true (leb lowest index && ltb index h.instructions) t, annotation_from))
+    bad_index t = refused _ (rw (le-leb (p + 2) (proof_start h) (omega arith), ← ei, t, annotation_from))
 
-    module _ (t : not (leb lowest index && ltb index h.instructions) ≡ false) where
+    module _ (t : (leb lowest index && ltb index h.instructions) ≡ true) where
       pub no_count : end < p + 3 → AnnotationRead bytes h lowest p (one.Refused (AnnotationBytes end))
       unfolding annotation_from annotation_refusal half_at byte_at ◌>>=◌ check stop_as
-      no_count l = refused _ (rw (ends, le-leb (p + 2) (proof_start h) (omega arith), ← ei, not-false (leb lowest index && ltb index h.instructions) t, lt-leb (p + 2 + 1) (proof_start h) (omega arith), annotation_from))
+      no_count l = refused _ (rw (ends, le-leb (p + 2) (proof_start h) (omega arith), ← ei, t, lt-leb (p + 2 + 1) (proof_start h) (omega arith), annotation_from))
 
       module _ (three : p + 3 ≤ end) (count : ℕ) (ec : count ≡ get_or bytes (p + 2) 0) where
         pub bad_count : most_atoms < count → AnnotationRead bytes h lowest p (one.Refused (BadAnnotation (p + 2)))
         unfolding annotation_from annotation_refusal half_at byte_at ◌>>=◌ check stop_as
-        bad_count l = refused _ (rw (le-leb (p + 2) (proof_start h) (omega arith), ← ei, not-false (leb lowest index && ltb index h.instructions) t, le-leb (p + 2 + 1) (proof_start h) (omega arith), ← ec, lt-leb count most_atoms l, annotation_from))
+        bad_count l = refused _ (rw (le-leb (p + 2) (proof_start h) (omega arith), ← ei, t, le-leb (p + 2 + 1) (proof_start h) (omega arith), ← ec, lt-leb count most_atoms l, annotation_from))
 
         module _ (few : count ≤ most_atoms) (r : Reading) (R : Reads end (body_at bytes end count (p + 3)) r) where
           -- what is left is the body
           by_body : annotation_from bytes h lowest p ≡ (annotation_field bytes h (body_at bytes (proof_start h) count (p + 3)) >>= made index)
           unfolding annotation_from half_at byte_at body_at ◌>>=◌ check stop_as made
-          by_body = rw (le-leb (p + 2) (proof_start h) (omega arith), ← ei, not-false (leb lowest index && ltb index h.instructions) t, le-leb (p + 2 + 1) (proof_start h) (omega arith), ← ec, le-leb count most_atoms few, annotation_from) (together (annotation_refusal bytes h) index (expression_at bytes (proof_start h) register_count (p + 3)) (λ q. atoms_at bytes (proof_start h) register_count count q))
+          by_body = rw (le-leb (p + 2) (proof_start h) (omega arith), ← ei, t, le-leb (p + 2 + 1) (proof_start h) (omega arith), ← ec, le-leb count most_atoms few, annotation_from) (together (annotation_refusal bytes h) index (expression_at bytes (proof_start h) register_count (p + 3)) (λ q. atoms_at bytes (proof_start h) register_count count q))
 
           -- the body's reading as the definition has it
           as_defined : Reads (proof_start h) (body_at bytes (proof_start h) count (p + 3)) r
@@ -123,6 +123,6 @@ module _ (bytes : List ℕ) (h : Header) (lowest p end : ℕ) (ends : end ≡ pr
           unfolding annotation_answer_of InsideIfNext ◌>>=◌ stop_as made
           whole q e =
               let x = read_next as_defined e in
-              let within = (and-eq-true_iff (leb lowest index) (ltb index h.instructions)).0 (not-false (leb lowest index && ltb index h.instructions) t) in
+              let within = (and-eq-true_iff (leb lowest index) (ltb index h.instructions)).0 (t) in
               let made_of : annotation_from bytes h lowest p ≡ made index (x.0, q) = by_body ∙ ap (λ (m : Result ReadError ((Term × List Atom) × ℕ)). annotation_field bytes h m >>= made index) x.1 in
               record { is = ap annotation_answer_of (sym made_of); inside = (ltb-true index h.instructions within.1, read_inside as_defined e) }

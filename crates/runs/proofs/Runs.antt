@@ -5,7 +5,7 @@ use mathlib.Core.List.{List, [], ◌∷◌}
 use Prim.Native.Nat.{ℕ, zero, suc, ◌+◌, ◌-◌, ◌≤◌, ◌<◌}
 use native.Mathlib.Omega.{arith}
 use native.Mathlib.Nat.{sub-zero}
-use lib.ListN.{length, get_or, take, get_elem?, length_map, get_or-map}
+use lib.ListN.{length, get_or, take, get_elem?, length-map, get_or-map}
 use lib.Seq.{length-take-le, get_or-take}
 use Rattle.model.specs.Policy.{Policy}
 use Rattle.model.specs.Package.{most_instructions}
@@ -72,7 +72,7 @@ module _ (lines : List Line) (size : ℕ) (regions : List Region) (count : ℕ) 
     here = state counter registers memory
 
     code_length : length code ≡ size
-    code_length = length_map (take size lines) (λ (l : Line). l.instruction) ∙ length-take-le size lines (omega (arith, g.whole, g.runnable.short))
+    code_length = length-map (take size lines) (λ (l : Line). l.instruction) ∙ length-take-le size lines (omega (arith, g.whole, g.runnable.short))
 
     pub spent : steps ≡ budget → Promised (record { number = 20; place = counter; steps = steps }) registers memory
     unfolding run_from

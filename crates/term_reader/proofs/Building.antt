@@ -13,7 +13,7 @@ use Rattle.model.specs.Result.{value, ◌>>=◌}
 use Rattle.model.specs.Term.{Term, shift}
 use Rattle.model.specs.Expression.{Form, two_expressions, count_and_expression, forms, most_count, most_nodes, Nodes, nodes_at, expression_at, register_count}
 use Rattle.workspace.specs.Layout.{most_variables, table_base, Same}
-use Rattle.nodes.specs.Table.{operation_of, place, term_at, Formed, Space, Put}
+use Rattle.nodes.specs.Table.{operation_of, place, term_at, Formed, Put}
 use Rattle.leaf_reader.specs.Leaves.{mapped, nodes_over, variable_term, nodes_answer, Ready, Grown, NodeRead}
 use Rattle.term_reader.specs.Reader.{expression_answer, NodesRead, ExpressionRead}
 use Rattle.leaf_reader.specs.declared.Parse.{Parse}
@@ -88,20 +88,13 @@ module _ {ws registers bytes : List ℕ} {end limit at left top : ℕ} (y : Read
         grown = a.grown;
       }
 
--- ---- an answer that is known, and room that is left
-told : {ws us registers bytes : List ℕ} {end limit at left top : ℕ} {r q : Parse} → NodesRead ws us registers bytes end limit at left top r → r ≡ q → NodesRead ws us registers bytes end limit at left top q
-told {ws} {us} {registers} {bytes} {end} {limit} {at} {left} {top} a e = subst (NodesRead ws us registers bytes end limit at left top) e a
-
+-- ---- room that is left
 pub ready_fewer : {ws registers : List ℕ} {top left : ℕ} (l : ℕ) → l ≤ left → Ready ws registers top left → Ready ws registers top l
 ready_fewer l h y = record { formed = y.formed; space = record { words = y.space.words; fits = omega (arith, y.space.fits) }; held = y.held }
 
 -- room is left for l nodes above a table that has grown to t
 pub ready_after : {ws us registers : List ℕ} {top left : ℕ} (t l : ℕ) → top ≤ t → t + l ≤ top + left → Formed us t → length us ≡ length ws → Ready ws registers top left → Ready us registers t l
 ready_after t l g h f e y = record { formed = f; space = record { words = omega (arith, y.space.words); fits = omega (arith, y.space.fits) }; held = λ v b. omega (arith, y.held v b) }
-
--- room is left for one node
-space_after : {ws vs : List ℕ} {top left : ℕ} (t : ℕ) → Space ws top left → t < top + left → length vs ≡ length ws → Space vs t 1
-space_after t s h e = record { words = omega (arith, s.words); fits = omega (arith, s.fits) }
 
 -- ---- the measures, by the nodes left: `read` hands on as many to `read_pair` and `read_shift`, which hand on fewer
 abbrev pub read_measure : ℕ → ℕ
@@ -110,161 +103,129 @@ read_measure left = left + left + 1
 abbrev pub operands_measure : ℕ → ℕ
 operands_measure left = left + left
 
--- ---- `read_pair` and `read_shift`: what they are given, beside what is known of the tag; what their first operand asks
+-- ---- `read_pair` and `read_shift`: what the `read` of an operand asks
 abbrev pub ReadAsked : (ws registers bytes : List ℕ) (end limit left top : ℕ) → Type 0
 ReadAsked ws registers bytes end limit left top = ((end ≤ length bytes) × (limit ≤ most_variables)) × Ready ws registers top left
 
-abbrev pub OperandsAsked : (ws registers bytes : List ℕ) (end limit at left top : ℕ) (T : Type 0) → Type 0
-OperandsAsked ws registers bytes end limit at left top T = ((end ≤ length bytes) × (limit ≤ most_variables)) × (Ready ws registers top left × (((at < end) × (0 < left)) × T))
+pub first_asked : {ws registers : List ℕ} (bytes : List ℕ) {end limit left top t : ℕ} → (end ≤ length bytes) × (limit ≤ most_variables) → Ready ws registers top left → 0 < left → operands_measure left ≡ t → (read_measure (left - 1) < t) × ReadAsked ws registers bytes end limit (left - 1) top
+first_asked bytes {left = left} b y s e = (omega arith, (b, ready_fewer (left - 1) (omega arith) y))
 
-module _ {ws registers : List ℕ} (bytes : List ℕ) {end limit at left top : ℕ} {T : Type 0} (y : OperandsAsked ws registers bytes end limit at left top T) where
-  ready : Ready ws registers top left
-  ready = y.1.0
+-- ---- their ways out: x says what an operand's answer, and k what follows it, makes of the whole
+abbrev Leads : (ws registers bytes : List ℕ) (end limit at left : ℕ) → Nodes → (ℕ → Term × ℕ × ℕ → Nodes) → Type 0
+Leads ws registers bytes end limit at left x k = (d : ℕ) → left - 1 ≤ d → (x >>= k d) ≡ nodes_over (variable_term ws registers) (nodes_at bytes end limit (suc d) left at)
 
-  some_left : 0 < left
-  some_left = y.1.1.0.1
-
-  pub first_asked : {t : ℕ} → operands_measure left ≡ t → (read_measure (left - 1) < t) × ReadAsked ws registers bytes end limit (left - 1) top
-  first_asked e = (omega (arith, some_left), (y.0, ready_fewer (left - 1) (omega arith) ready))
-
-  -- ---- their ways out: x says what an operand's answer, and k what follows it, makes of the whole
-  abbrev Leads : Nodes → (ℕ → Term × ℕ × ℕ → Nodes) → Type 0
-  Leads x k = (d : ℕ) → left - 1 ≤ d → (x >>= k d) ≡ nodes_over (variable_term ws registers) (nodes_at bytes end limit (suc d) left at)
-
-  operand_refused : {us vs : List ℕ} {p l t : ℕ} (k : ℕ → Term × ℕ × ℕ → Nodes) (q : Parse) → Refused q → top ≤ t → Same 0 (place top) ws us → NodesRead us vs registers bytes end limit p l t q → Leads (nodes_answer vs q) k → NodesRead ws vs registers bytes end limit at left top q
-  operand_refused {vs = vs} k q o h s a e = record {
-    answer = by_depth (variable_term ws registers) bytes end limit left at some_left (λ d l. refused (k d) vs q o ∙ e d l);
-    grown = grown_refused q o h s a.grown;
+module _ {ws registers bytes : List ℕ} {end limit at left top : ℕ} (s : 0 < left) where
+  operand_refused : {us vs : List ℕ} {p l t : ℕ} (k : ℕ → Term × ℕ × ℕ → Nodes) (q : Parse) → Refused q → top ≤ t → Same 0 (place top) ws us → NodesRead us vs registers bytes end limit p l t q → Leads ws registers bytes end limit at left (nodes_answer vs q) k → NodesRead ws vs registers bytes end limit at left top q
+  operand_refused {vs = vs} k q o h m a e = record {
+    answer = by_depth (variable_term ws registers) bytes end limit left at s (λ d l. refused (k d) vs q o ∙ e d l);
+    grown = grown_refused q o h m a.grown;
   }
 
-  node_put : {vs xs : List ℕ} {s : Term} {n l t : ℕ} → Same 0 (place top) ws vs → top ≤ t → t + l < top + left → n ≤ end → Put vs xs t s
-      → ((d : ℕ) → left - 1 ≤ d → value (s, n, l) ≡ nodes_over (variable_term ws registers) (nodes_at bytes end limit (suc d) left at)) → NodesRead ws xs registers bytes end limit at left top (Found t n l (t + 1))
-  node_put {xs = xs} {n = n} {l} {t} s h f i w e = record {
-    answer = by_depth (variable_term ws registers) bytes end limit left at some_left (λ d m. ap (λ z. value (z, n, l)) w.is ∙ e d m);
-    grown = record { kept = kept_before h s w.kept; formed = subst (Formed xs) (sym (add-one t)) w.formed; within = (omega arith, i); grows = omega arith; few = omega arith };
+  node_put : {vs xs : List ℕ} {z : Term} {n l t : ℕ} → Same 0 (place top) ws vs → top ≤ t → t + l < top + left → n ≤ end → Put vs xs t z
+      → ((d : ℕ) → left - 1 ≤ d → value (z, n, l) ≡ nodes_over (variable_term ws registers) (nodes_at bytes end limit (suc d) left at)) → NodesRead ws xs registers bytes end limit at left top (Found t n l (t + 1))
+  node_put {xs = xs} {n = n} {l} {t} m h f i w e = record {
+    answer = by_depth (variable_term ws registers) bytes end limit left at s (λ d b. ap (λ z. value (z, n, l)) w.is ∙ e d b);
+    grown = record { kept = kept_before h m w.kept; formed = subst (Formed xs) (sym (add-one t)) w.formed; within = (omega arith, i); grows = omega arith; few = omega arith };
   }
 
--- ---- `read_pair`: what its calls ask, and its ways out
+-- ---- `read_pair`: what it is given, what its calls ask, and its ways out
 abbrev pub PairAsked : (ws registers bytes : List ℕ) (end limit at left top tag : ℕ) → Type 0
-PairAsked ws registers bytes end limit at left top tag = OperandsAsked ws registers bytes end limit at left top ((tag ≡ get_or bytes at 0) × (1 < tag) × (tag < 5))
+PairAsked ws registers bytes end limit at left top tag = record {
+  end_in_bounds : (end ≤ length bytes) × (limit ≤ most_variables);
+  ready : Ready ws registers top left;
+  at_lt_end : (at < end) × (0 < left);
+  tag_value : (tag ≡ get_or bytes at 0) × (1 < tag) × (tag < 5);
+}
 
 module _ {ws registers : List ℕ} (bytes : List ℕ) {end limit at left top tag : ℕ} (y : PairAsked ws registers bytes end limit at left top tag) where
   is_pair : get_elem? forms (get_or bytes at 0) ≡ some (two_expressions (operation_of tag))
-  is_pair = let e : (tag ≡ get_or bytes at 0) × (1 < tag) × (tag < 5) = y.1.1.1 in ap (get_elem? forms) (sym e.0) ∙ form_pair tag e.1 e.2
+  is_pair = ap (get_elem? forms) (sym y.tag_value.0) ∙ form_pair tag y.tag_value.1 y.tag_value.2
 
   abbrev after_first : ℕ → Term × ℕ × ℕ → Nodes
   after_first d z = applied (operation_of tag z.0) (nodes_over (variable_term ws registers) (nodes_at bytes end limit d z.2 z.1))
 
   -- what is read, once the first operand is
-  from_first : {us : List ℕ} {r : Parse} → NodesRead ws us registers bytes end limit (at + 1) (left - 1) top r → Leads bytes y (nodes_answer us r) after_first
+  from_first : {us : List ℕ} {r : Parse} → NodesRead ws us registers bytes end limit (at + 1) (left - 1) top r → Leads ws registers bytes end limit at left (nodes_answer us r) after_first
   from_first a d l =
       let σ : ℕ → Term = variable_term ws registers in
       ap (λ x. pair_of (operation_of tag) x (λ l q. nodes_over σ (nodes_at bytes end limit d l q))) (a.answer d l)
       ∙ sym (pair_over σ (operation_of tag) (operation_keeps tag σ) (nodes_at bytes end limit d (left - 1) (at + 1)) (λ l q. nodes_at bytes end limit d l q))
       ∙ ap (nodes_over σ) (node_pair bytes end limit (λ l q. nodes_at bytes end limit d l q) left at (operation_of tag))
-      ∙ ap (nodes_over σ) (nodes_form bytes end limit left at y.1.1.0.0 d (some_left bytes y) is_pair)
+      ∙ ap (nodes_over σ) (nodes_form bytes end limit left at y.at_lt_end.0 d y.at_lt_end.1 is_pair)
 
-  pub first_refused : {us : List ℕ} {r : Parse} (q : Parse) → Refused q → NodesRead ws us registers bytes end limit (at + 1) (left - 1) top r → r ≡ q → NodesRead ws us registers bytes end limit at left top q
-  first_refused q o x e = operand_refused bytes y after_first q o (omega arith) (same_refl 0 (place top) ws) (told x e) (from_first (told x e))
+  pub first_refused : {us : List ℕ} (q : Parse) → Refused q → NodesRead ws us registers bytes end limit (at + 1) (left - 1) top q → NodesRead ws us registers bytes end limit at left top q
+  first_refused q o x = operand_refused y.at_lt_end.1 after_first q o (omega arith) (same_refl 0 (place top) ws) x (from_first x)
 
-  module _ {us : List ℕ} {f : Parse} {a1 n1 l1 t1 : ℕ} (x : NodesRead ws us registers bytes end limit (at + 1) (left - 1) top f) (e : f ≡ Found a1 n1 l1 t1) (k : length us ≡ length ws) where
-    first : NodesRead ws us registers bytes end limit (at + 1) (left - 1) top (Found a1 n1 l1 t1)
-    first = told x e
-
-    pub second_asked : {t : ℕ} → operands_measure left ≡ t → (read_measure l1 < t) × ReadAsked us registers bytes end limit l1 t1
-    second_asked m =
-        let some : 0 < left = some_left bytes y in
-        (omega (arith, first.grown.few, first.grown.grows), (y.0, ready_after t1 l1 first.grown.grows (omega (arith, first.grown.few)) first.grown.formed k (ready bytes y)))
+  module _ {us : List ℕ} {a1 n1 l1 t1 : ℕ} (first : NodesRead ws us registers bytes end limit (at + 1) (left - 1) top (Found a1 n1 l1 t1)) where
+    pub second_asked : length us ≡ length ws → {t : ℕ} → operands_measure left ≡ t → (read_measure l1 < t) × ReadAsked us registers bytes end limit l1 t1
+    second_asked k m =
+        let some : 0 < left = y.at_lt_end.1 in
+        (omega (arith, first.grown.few, first.grown.grows), (y.end_in_bounds, ready_after t1 l1 first.grown.grows (omega (arith, first.grown.few)) first.grown.formed k y.ready))
 
     abbrev after_second : ℕ → Term × ℕ × ℕ → Nodes
     after_second d z = value (operation_of tag (term_at us a1) z.0, z.1, z.2)
 
     -- what is read, once the second operand is: its variables have the terms from before the first
-    from_second : {vs : List ℕ} {r : Parse} → NodesRead us vs registers bytes end limit n1 l1 t1 r → Leads bytes y (nodes_answer vs r) after_second
+    from_second : {vs : List ℕ} {r : Parse} → NodesRead us vs registers bytes end limit n1 l1 t1 r → Leads ws registers bytes end limit at left (nodes_answer vs r) after_second
     unfolding ◌>>=◌
-    from_second q d l = rw (q.answer d (omega (arith, first.grown.few, first.grown.grows)), variable_same registers top (ready bytes y).held first.grown.kept) (from_first first d l)
+    from_second q d l = rw (q.answer d (omega (arith, first.grown.few, first.grown.grows)), variable_same registers top y.ready.held first.grown.kept) (from_first first d l)
 
-    pub second_refused : {vs : List ℕ} {r : Parse} (q : Parse) → Refused q → NodesRead us vs registers bytes end limit n1 l1 t1 r → r ≡ q → NodesRead ws vs registers bytes end limit at left top q
-    second_refused q o z i = operand_refused bytes y after_second q o first.grown.grows first.grown.kept (told z i) (from_second (told z i))
+    pub second_refused : {vs : List ℕ} (q : Parse) → Refused q → NodesRead us vs registers bytes end limit n1 l1 t1 q → NodesRead ws vs registers bytes end limit at left top q
+    second_refused q o z = operand_refused y.at_lt_end.1 after_second q o first.grown.grows first.grown.kept z (from_second z)
 
-    -- what the new node asks, wherever the second operand stands, of whichever nodes a and b it is made
-    module _ {vs : List ℕ} {g : Parse} {p a2 n2 l2 t2 : ℕ} (z : NodesRead us vs registers bytes end limit p l1 t1 g) (i : g ≡ Found a2 n2 l2 t2) where
-      second : NodesRead us vs registers bytes end limit p l1 t1 (Found a2 n2 l2 t2)
-      second = told z i
-
-      few : t2 + l2 < top + left
-      few = omega (arith, some_left bytes y, first.grown.few, second.grown.few)
-
-      module _ (m : length vs ≡ length us) where
-        pub pair_space : Space vs t2 1
-        pair_space = space_after t2 (ready bytes y).space (omega (arith, few)) (m ∙ k)
-
-        pub pair_asked : {a b : ℕ} → (a1 < t2 → a2 < t2 → (a < t2) × (b < t2)) → Formed vs t2 × (Space vs t2 1 × (((a < t2) × (b < t2)) × ((1 < tag) × (tag < 5))))
-        pair_asked d = (second.grown.formed, (pair_space, (d (omega (arith, first.grown.within.0, second.grown.grows)) second.grown.within.0, (y.1.1.1.1, y.1.1.1.2))))
-
-    pub pair_read : {vs xs : List ℕ} {g : Parse} {a2 n2 l2 t2 a b : ℕ} → NodesRead us vs registers bytes end limit n1 l1 t1 g → g ≡ Found a2 n2 l2 t2 → a ≡ a1 → b ≡ a2 → Put vs xs t2 (operation_of tag (term_at vs a) (term_at vs b))
+    pub pair_read : {vs xs : List ℕ} {a2 n2 l2 t2 a b : ℕ} → NodesRead us vs registers bytes end limit n1 l1 t1 (Found a2 n2 l2 t2) → a ≡ a1 → b ≡ a2 → Put vs xs t2 (operation_of tag (term_at vs a) (term_at vs b))
         → NodesRead ws xs registers bytes end limit at left top (Found t2 n2 l2 (t2 + 1))
     unfolding ◌>>=◌
-    pair_read {vs} {xs} {g} {a2} {n2} {l2} {t2} z i d e w =
-        let two : NodesRead us vs registers bytes end limit n1 l1 t1 (Found a2 n2 l2 t2) = second z i in
-        let one : term_at vs a1 ≡ term_at us a1 = term_same t1 (same_within table_base (place t1) (omega arith) (omega arith) two.grown.kept) a1 first.grown.within.0 in
+    pair_read {vs} {xs} {a2} {n2} {l2} {t2} second d e w =
+        let one : term_at vs a1 ≡ term_at us a1 = term_same t1 (same_within table_base (place t1) (omega arith) (omega arith) second.grown.kept) a1 first.grown.within.0 in
         let put : Put vs xs t2 (operation_of tag (term_at us a1) (term_at vs a2)) = rw (← one, ← d, ← e) w in
-        node_put bytes y (kept_before first.grown.grows first.grown.kept two.grown.kept) (omega (arith, first.grown.grows, two.grown.grows)) (few z i) two.grown.within.1 put (from_second two)
+        let some : 0 < left = y.at_lt_end.1 in
+        node_put some (kept_before first.grown.grows first.grown.kept second.grown.kept) (omega (arith, first.grown.grows, second.grown.grows)) (omega (arith, first.grown.few, second.grown.few)) second.grown.within.1 put (from_second second)
 
--- ---- `read_shift`: what its calls ask, and its ways out
+-- ---- `read_shift`: what it is given, what its calls ask, and its ways out
 abbrev pub ShiftAsked : (ws registers bytes : List ℕ) (end limit at left top : ℕ) → Type 0
-ShiftAsked ws registers bytes end limit at left top = OperandsAsked ws registers bytes end limit at left top (get_or bytes at 0 ≡ 5)
+ShiftAsked ws registers bytes end limit at left top = record {
+  end_in_bounds : (end ≤ length bytes) × (limit ≤ most_variables);
+  ready : Ready ws registers top left;
+  at_lt_end : (at < end) × (0 < left);
+  at_value : get_or bytes at 0 ≡ 5;
+}
 
 module _ {ws registers : List ℕ} (bytes : List ℕ) {end limit at left top : ℕ} (y : ShiftAsked ws registers bytes end limit at left top) where
   as_shift : {r : Parse} → NodeRead ws ws registers bytes end limit at left top (count_and_expression shift) r → NodesRead ws ws registers bytes end limit at left top r
-  as_shift = read_form (ready bytes y) y.1.1.0.0 (some_left bytes y) 5 y.1.1.1 refl
+  as_shift = read_form y.ready y.at_lt_end.0 y.at_lt_end.1 5 y.at_value refl
 
   pub count_missing : end - at < 2 → NodesRead ws ws registers bytes end limit at left top Missing
-  count_missing h = let l : at < end = y.1.1.0.0 in as_shift (record { answer = λ o. shift_missing bytes end limit _ o left at (omega arith); grown = grown_missing (ready bytes y).formed })
-
-  -- what the new node asks, wherever the operand stands
-  module _ {us : List ℕ} {f : Parse} {p a1 n1 l1 t1 : ℕ} (x : NodesRead ws us registers bytes end limit p (left - 1) top f) (e : f ≡ Found a1 n1 l1 t1) where
-    operand : NodesRead ws us registers bytes end limit p (left - 1) top (Found a1 n1 l1 t1)
-    operand = told x e
-
-    few_shifted : t1 + l1 < top + left
-    few_shifted = omega (arith, some_left bytes y, operand.grown.few)
-
-    module _ (k : length us ≡ length ws) where
-      pub shift_space : Space us t1 1
-      shift_space = space_after t1 (ready bytes y).space (omega (arith, few_shifted)) k
-
-      pub shift_asked : {a count : ℕ} → count ≤ most_count → a ≡ a1 → Formed us t1 × (Space us t1 1 × ((count ≤ most_count) × (a < t1)))
-      shift_asked m d = (operand.grown.formed, (shift_space, (m, omega (arith, operand.grown.within.0))))
+  count_missing h = let l : at < end = y.at_lt_end.0 in as_shift (record { answer = λ o. shift_missing bytes end limit _ o left at (omega arith); grown = grown_missing y.ready.formed })
 
   module _ (h : 2 ≤ end - at) where
     pub count_fault : most_count < get_or bytes (at + 1) 0 → NodesRead ws ws registers bytes end limit at left top (Fault (at + 1))
-    count_fault m = as_shift (record { answer = λ o. shift_fault bytes end limit _ o left at (omega arith) m; grown = grown_fault (ready bytes y).formed (at + 1) })
+    count_fault m = as_shift (record { answer = λ o. shift_fault bytes end limit _ o left at (omega arith) m; grown = grown_fault y.ready.formed (at + 1) })
 
     module _ (m : get_or bytes (at + 1) 0 ≤ most_count) where
       abbrev after_operand : ℕ → Term × ℕ × ℕ → Nodes
       after_operand d z = value (shift (get_or bytes (at + 1) 0) z.0, z.1, z.2)
 
       -- what is read, once the operand is
-      from_operand : {us : List ℕ} {r : Parse} → NodesRead ws us registers bytes end limit (at + 2) (left - 1) top r → Leads bytes y (nodes_answer us r) after_operand
+      from_operand : {us : List ℕ} {r : Parse} → NodesRead ws us registers bytes end limit (at + 2) (left - 1) top r → Leads ws registers bytes end limit at left (nodes_answer us r) after_operand
       from_operand a d l =
           let σ : ℕ → Term = variable_term ws registers in
           let count : ℕ = get_or bytes (at + 1) 0 in
           ap (applied (shift count)) (a.answer d l)
           ∙ sym (shift_over σ count (nodes_at bytes end limit d (left - 1) (at + 2)))
           ∙ ap (nodes_over σ) (node_shift bytes end limit (λ l q. nodes_at bytes end limit d l q) left at (omega arith) m)
-          ∙ ap (nodes_over σ) (nodes_form bytes end limit left at y.1.1.0.0 d (some_left bytes y) (ap (get_elem? forms) y.1.1.1))
+          ∙ ap (nodes_over σ) (nodes_form bytes end limit left at y.at_lt_end.0 d y.at_lt_end.1 (ap (get_elem? forms) y.at_value))
 
-      pub shift_refused : {us : List ℕ} {r : Parse} (q : Parse) → Refused q → NodesRead ws us registers bytes end limit (at + 2) (left - 1) top r → r ≡ q → NodesRead ws us registers bytes end limit at left top q
-      shift_refused q o x e = operand_refused bytes y after_operand q o (omega arith) (same_refl 0 (place top) ws) (told x e) (from_operand (told x e))
+      pub shift_refused : {us : List ℕ} (q : Parse) → Refused q → NodesRead ws us registers bytes end limit (at + 2) (left - 1) top q → NodesRead ws us registers bytes end limit at left top q
+      shift_refused q o x = operand_refused y.at_lt_end.1 after_operand q o (omega arith) (same_refl 0 (place top) ws) x (from_operand x)
 
-      pub shift_read : {us xs : List ℕ} {f : Parse} {a1 n1 l1 t1 a : ℕ} → NodesRead ws us registers bytes end limit (at + 2) (left - 1) top f → f ≡ Found a1 n1 l1 t1 → a ≡ a1 → Put us xs t1 (shift (get_or bytes (at + 1) 0) (term_at us a))
+      pub shift_read : {us xs : List ℕ} {a1 n1 l1 t1 a : ℕ} → NodesRead ws us registers bytes end limit (at + 2) (left - 1) top (Found a1 n1 l1 t1) → a ≡ a1 → Put us xs t1 (shift (get_or bytes (at + 1) 0) (term_at us a))
           → NodesRead ws xs registers bytes end limit at left top (Found t1 n1 l1 (t1 + 1))
       unfolding ◌>>=◌
-      shift_read {us} {xs} {f} {a1} {n1} {l1} {t1} x e d w =
-          let one : NodesRead ws us registers bytes end limit (at + 2) (left - 1) top (Found a1 n1 l1 t1) = operand x e in
+      shift_read {us} {xs} {a1} {n1} {l1} {t1} operand d w =
           let put : Put us xs t1 (shift (get_or bytes (at + 1) 0) (term_at us a1)) = rw (← d) w in
-          node_put bytes y one.grown.kept one.grown.grows (few_shifted x e) one.grown.within.1 put (from_operand one)
+          let some : 0 < left = y.at_lt_end.1 in
+          node_put some operand.grown.kept operand.grown.grows (omega (arith, operand.grown.few)) operand.grown.within.1 put (from_operand operand)
 
 -- ---- `expression`: its way out, and an answer that is known
 expression_answer_lem : (us : List ℕ) (r : Parse) → expression_answer us r ≡ without_left (nodes_answer us r)

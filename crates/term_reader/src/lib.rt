@@ -14,7 +14,7 @@ use limits::{MOST_COUNT, MOST_NODES, REGISTERS};
 const COUNT: u8 = MOST_COUNT as u8;
 
 // The sum, for tag 2, the difference, for tag 3, or the mask, for tag 4, at `at`: two expressions after the tag.
-#[cycle(read_read_pair_read_shift)]
+#[cycle(reading)]
 fn read_pair(
     bytes: &[u8],
     ws: &mut [u32],
@@ -63,7 +63,7 @@ fn read_pair(
 }
 
 // The shift, tag 5, at `at`: a count and an expression after the tag.
-#[cycle(read_read_pair_read_shift)]
+#[cycle(reading)]
 fn read_shift(
     bytes: &[u8],
     ws: &mut [u32],
@@ -109,7 +109,7 @@ fn read_shift(
 }
 
 // The expression at `at`, of at most `left` nodes, its variables below the limit.
-#[cycle(read_read_pair_read_shift)]
+#[cycle(reading)]
 fn read(
     bytes: &[u8],
     ws: &mut [u32],
