@@ -6,7 +6,7 @@ use Rattle.accesses.proofs.Accessing.{address_going, address_in, kept_address, l
 use Rattle.accesses.proofs.load.Goals as goal
 
 pub goal-judged-requires : goal.goal-judged-requires
-goal-judged-requires c = let h = let n = address_in c.put_with.ensures c.raised-raised.ensures in (address_going c.requires.room_for c.requires.region_words c.requires.reached c.put_with.auto.ws c.put_with.ensures (omega arith) c.raised-raised.ensures, record { below = n.below; bound = n.bound }) in record { going = h.0; claim_in = h.1 }
+goal-judged-requires c = let n = address_in c.put_with.ensures c.raised-raised.ensures in record { going = address_going c.requires.room_for c.requires.region_words c.requires.reached c.put_with.auto.ws c.put_with.ensures (omega arith) c.raised-raised.ensures; claim_in = record { below = n.below; bound = n.bound } }
 
 pub loaded-requires : goal.loaded-requires
 loaded-requires c = record { d_lt_register_count = c.requires.d_lt_register_count.0; room_for = room_kept (kept_address c.requires.room_for c.put_with.ensures c.raised-raised.ensures c.goal-judged.ensures.left) (c.goal-judged.auto.ws ∙ c.put_with.auto.ws) c.requires.room_for }

@@ -5,7 +5,7 @@ use Rattle.accesses.proofs.Accessing.{address_going, address_in, store_goes, acc
 use Rattle.accesses.proofs.store.Goals as goal
 
 pub goal-judged-requires : goal.goal-judged-requires
-goal-judged-requires c = let h = let n = address_in c.put_with.ensures c.raised-raised.ensures in (address_going c.requires.room_for c.requires.region_words c.requires.reached c.put_with.auto.ws c.put_with.ensures (omega arith) c.raised-raised.ensures, record { below = n.below; bound = n.bound }) in record { going = h.0; claim_in = h.1 }
+goal-judged-requires c = let n = address_in c.put_with.ensures c.raised-raised.ensures in record { going = address_going c.requires.room_for c.requires.region_words c.requires.reached c.put_with.auto.ws c.put_with.ensures (omega arith) c.raised-raised.ensures; claim_in = record { below = n.below; bound = n.bound } }
 
 pub overflow_add-path : goal.overflow_add-path
 overflow_add-path c = omega (arith, c.requires.room_for.within)

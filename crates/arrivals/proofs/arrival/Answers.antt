@@ -18,7 +18,7 @@ pub returns-in_default-first : goal.returns-in_default-first
 returns-in_default-first c = arrival_stopped c.args.at c.requires.going c.requires.node_in c.expression-read.auto.ws c.expression-read.ensures c.in-Term.is c.raised-inner.ensures c.wide_byte-number.ensures c.atoms-first.ensures c.in_default-first.is
 
 pub credits-requires : goal.credits-requires
-credits-requires c = let h = rw c.wide.ensures (owed_asks c.args.at c.requires.going c.requires.node_in c.expression-read.auto.ws c.expression-read.ensures c.in-Term.is c.raised-inner.ensures c.wide_byte-number.ensures c.atoms-first.ensures c.in-Next.is c.atoms-first.auto.ws) in record { going = h.0; node_in = h.1.0; node_in_2 = h.1.1 }
+credits-requires c = rw c.wide.ensures (let h = owed_asks c.args.at c.requires.going c.requires.node_in c.expression-read.auto.ws c.expression-read.ensures c.in-Term.is c.raised-inner.ensures c.wide_byte-number.ensures c.atoms-first.ensures c.in-Next.is c.atoms-first.auto.ws in record { going = h.0; node_in = h.1.0; node_in_2 = h.1.1 })
 
 pub returns : goal.returns
 returns c = arrival_judged c.args.at c.requires.going c.requires.node_in c.expression-read.auto.ws c.expression-read.ensures c.in-Term.is c.raised-inner.ensures c.wide_byte-number.ensures c.atoms-first.ensures c.in-Next.is c.atoms-first.auto.ws (rw (← c.wide.ensures) c.credits.ensures)
