@@ -128,11 +128,11 @@ module _ {bytes policy_bytes indexes places : List ℕ} {setting : Setting} {pol
 
   pub precondition_stands : atoms_at policy_bytes (length policy_bytes) register_count setting.policy.precondition_atoms setting.policy.precondition ≡ value (policy.precondition, setting.policy.postcondition)
   unfolding policy_of
-  precondition_stands = settled.checked.precondition-read.read ∙ ap (λ p. value (p.precondition, setting.policy.postcondition)) (sym stands.policy_is)
+  precondition_stands = settled.checked.precondition_read.read ∙ ap (λ p. value (p.precondition, setting.policy.postcondition)) (sym stands.policy_is)
 
   pub postcondition_stands : atoms_at policy_bytes (length policy_bytes) register_count setting.policy.postcondition_atoms setting.policy.postcondition ≡ value (policy.postcondition, length policy_bytes)
   unfolding policy_of
-  postcondition_stands = settled.checked.postcondition-read.read ∙ ap (λ p. value (p.postcondition, length policy_bytes)) (sym stands.policy_is)
+  postcondition_stands = settled.checked.postcondition_read.read ∙ ap (λ p. value (p.postcondition, length policy_bytes)) (sym stands.policy_is)
 
   pub code_long : length routine.code ≡ setting.header.instructions
   code_long = code_length bytes setting.header stands.code_read
