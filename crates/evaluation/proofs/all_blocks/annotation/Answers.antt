@@ -22,7 +22,7 @@ pub overflow_sub-header : goal.overflow_sub-header
 overflow_sub-header c = omega (arith, index_below c.requires.fixed c.requires.k_lt_annotations c.wide-index.ensures)
 
 pub walk-requires : goal.walk-requires
-walk-requires c = let h = (c.requires.fixed, note_walk_asks c.requires.fixed c.requires.k_lt_annotations c.wide-index.ensures c.wide-at.ensures c.annotation_block-block.ensures (omega (arith, c.requires.workspace.words, c.annotation_block-block.auto.ws)) c.requires.reached) in record { fixed = h.0; room_for = h.1.0; node_in = h.1.1.0; reached = h.1.1.1.0; left_value = h.1.1.1.1 }
+walk-requires c = let h = note_walk_asks c.requires.fixed c.requires.k_lt_annotations c.wide-index.ensures c.wide-at.ensures c.annotation_block-block.ensures (omega (arith, c.requires.workspace.words, c.annotation_block-block.auto.ws)) c.requires.reached in record { fixed = c.requires.fixed; room_for = h.0; node_in = h.1.0; reached = h.1.1.0; left_value = h.1.1.1 }
 
 pub shape_of-ws : goal.shape_of-ws
 shape_of-ws c = c.walk.auto.ws ∙ c.annotation_block-block.auto.ws

@@ -10,7 +10,7 @@ pub arrive-arrived-requires : goal.arrive-arrived-requires
 arrive-arrived-requires c = let h = entry_asks c.requires.fixed (omega (arith, c.requires.workspace.words, c.entry_block-block.auto.ws)) c.entry_block-block.ensures c.requires.reached in record { tables = h.0; going = h.1.0; node_in = h.1.1.0; counter_le_most_instructions = h.1.1.1 }
 
 pub walk-requires : goal.walk-requires
-walk-requires c = let h = (c.requires.fixed, entry_walk_asks c.requires.fixed (omega (arith, c.requires.workspace.words, c.entry_block-block.auto.ws)) c.entry_block-block.ensures c.arrive-arrived.ensures c.arrive-arrived.auto.ws c.requires.reached) in record { fixed = h.0; room_for = h.1.0; node_in = h.1.1.0; reached = h.1.1.1.0; left_value = h.1.1.1.1 }
+walk-requires c = let h = entry_walk_asks c.requires.fixed (omega (arith, c.requires.workspace.words, c.entry_block-block.auto.ws)) c.entry_block-block.ensures c.arrive-arrived.ensures c.arrive-arrived.auto.ws c.requires.reached in record { fixed = c.requires.fixed; room_for = h.0; node_in = h.1.0; reached = h.1.1.0; left_value = h.1.1.1 }
 
 pub shape_of-ws-in-At : goal.shape_of-ws-in-At
 shape_of-ws-in-At c = c.arrive-arrived.auto.ws ∙ c.entry_block-block.auto.ws

@@ -26,10 +26,10 @@ pub jump_to-requires : goal.jump_to-requires
 jump_to-requires c = record { tables = fixed_tables c.requires.fixed; room_for = c.requires.room_for; node_in = c.requires.node_in; reached = c.requires.reached; target_le_most_instructions = jump_asks _ c.requires.formed c.requires.fixed.settled.fits.few c.in-Jump.is }
 
 pub branch_to-requires : goal.branch_to-requires
-branch_to-requires c = let h = (fixed_tables c.requires.fixed, (c.requires.room_for, (c.requires.node_in, (c.requires.reached, less_asks _ c.requires.formed c.requires.fixed.settled.fits.few c.in-JumpLess.is)))) in record { tables = h.0; room_for = h.1.0; node_in = h.1.1.0; reached = h.1.1.1.0; target_le_most_instructions = h.1.1.1.1.0; a_lt_register_count = h.1.1.1.1.1 }
+branch_to-requires c = let h = less_asks _ c.requires.formed c.requires.fixed.settled.fits.few c.in-JumpLess.is in record { tables = fixed_tables c.requires.fixed; room_for = c.requires.room_for; node_in = c.requires.node_in; reached = c.requires.reached; target_le_most_instructions = h.0; a_lt_register_count = h.1 }
 
 pub branch_to-requires-in-JumpEqual : goal.branch_to-requires-in-JumpEqual
-branch_to-requires-in-JumpEqual c = let h = (fixed_tables c.requires.fixed, (c.requires.room_for, (c.requires.node_in, (c.requires.reached, equal_asks _ c.requires.formed c.requires.fixed.settled.fits.few c.in-JumpEqual.is)))) in record { tables = h.0; room_for = h.1.0; node_in = h.1.1.0; reached = h.1.1.1.0; target_le_most_instructions = h.1.1.1.1.0; a_lt_register_count = h.1.1.1.1.1 }
+branch_to-requires-in-JumpEqual c = let h = equal_asks _ c.requires.formed c.requires.fixed.settled.fits.few c.in-JumpEqual.is in record { tables = fixed_tables c.requires.fixed; room_for = c.requires.room_for; node_in = c.requires.node_in; reached = c.requires.reached; target_le_most_instructions = h.0; a_lt_register_count = h.1 }
 
 pub return_from-requires : goal.return_from-requires
 return_from-requires c = record { region_words = c.requires.fixed.words; room_for = c.requires.room_for; node_in = c.requires.node_in; reached = c.requires.reached }
