@@ -1,11 +1,9 @@
 -- Laws of the reader that builds atoms in the table: one for each way out. Assumes nothing.
 use mathlib.Core.Path.{◌≡◌, refl, sym, ap, subst, ◌∙◌}
-use mathlib.Core.Logic.{⊎_elim, ◌⊎◌}
 use mathlib.Core.List.{List}
 use Prim.Native.Nat.{ℕ, ◌+◌, ◌<◌, ◌≤◌}
 use native.Mathlib.Omega.{arith}
 use lib.ListN.{length, get_or}
-use denote.Enum.Declared.{tag_of as variant_of, declared}
 use Rattle.model.specs.Result.{Result, ◌>>=◌}
 use Rattle.model.specs.Term.{Term}
 use Rattle.model.specs.Field.{ReadError}
@@ -21,7 +19,6 @@ use Rattle.leaf_reader.specs.declared.Parse.TheVariants.{Term as Found, Missing,
 use Rattle.atom_reader.specs.AtomReader.{atom_nodes, atom_over, atom_answer, unread_of, atom_top, AtomWithin, AtomGrown, AtomRead}
 use Rattle.atom_reader.specs.declared.AtomParse.{AtomParse}
 use Rattle.atom_reader.specs.declared.AtomParse.TheVariants.{Atom as FoundAtom, Missing as MissingAtom, Fault as FaultAtom}
-use Rattle.leaf_reader.specs.contracts.Parse.{enum}
 use Rattle.workspace.proofs.Frames.{same_refl, same_within}
 use Rattle.nodes.proofs.Table.{term_same, formed_less}
 use Rattle.atom_reader.proofs.Reading.{two_sides, right_side, sides_over, atom_missing, atom_unknown, atom_sides}
@@ -114,12 +111,3 @@ module _ {ws registers bytes : List ℕ} {end limit at top : ℕ} (y : Ready ws 
 -- what the second side's reading asks
 pub ready_right : {ws us registers : List ℕ} {end top a1 n1 l1 t1 : ℕ} → Ready ws registers top atom_nodes → Grown ws us end top most_nodes (Found a1 n1 l1 t1) → length us ≡ length ws → Ready us registers t1 most_nodes
 ready_right {t1 = t1} y g e = ready_after t1 most_nodes g.grows (omega (arith, g.few)) g.formed e y
-
--- ---- the ways out of `unread`
-pub unread_fault : {r : Parse} {p : ℕ} → r ≡ Fault p → FaultAtom p ≡ unread_of r
-unread_fault e = rw e
-
-pub unread_other : (r : Parse) → (variant_of (declared enum) r ≡ 0) ⊎ (variant_of (declared enum) r ≡ 1) → MissingAtom ≡ unread_of r
-unread_other (Found a n l t) o = refl
-unread_other Missing o = refl
-unread_other (Fault p) o = ⊎_elim (λ (e : 2 ≡ 0). absurd (omega arith)) (λ (e : 2 ≡ 1). absurd (omega arith)) o

@@ -1,6 +1,6 @@
 -- Laws of reading a rule: one for each way out. Assumes nothing.
 use mathlib.Core.Path.{◌≡◌, refl, sym, ap, subst, ◌∙◌}
-use mathlib.Core.Logic.{⊎_elim, ◌⊎◌}
+use mathlib.Core.Logic.{⊎_elim}
 use mathlib.Core.Option.{Option, none, some}
 use mathlib.Core.List.{List, ◌∷◌, []}
 use Prim.Native.Nat.{ℕ, zero, suc, ◌+◌, ◌-◌, ◌<◌, ◌≤◌}
@@ -19,14 +19,13 @@ use Rattle.model.specs.Expression.{expression_at, most_nodes, register_count}
 use Rattle.model.specs.Rule.{Rule, Format, plain, with_index, with_term, with_region, rules}
 use Rattle.model.specs.Derivation.{proof_refusal, proof_field, rule_at}
 use Rattle.model.specs.declared.Refusal.{Refusal}
-use Rattle.model.specs.declared.Refusal.TheVariants.{ProofExhausted, UnfitRule, BadArgument}
+use Rattle.model.specs.declared.Refusal.TheVariants.{ProofExhausted, UnfitRule}
 use Rattle.model.proofs.Lists.{Every, empty, ◌&◌}
 use Rattle.nodes.specs.Table.{place, term_at, Formed}
 use Rattle.leaf_reader.specs.Leaves.{Ready}
 use Rattle.term_reader.specs.Reader.{expression_answer, ExpressionRead}
 use Rattle.leaf_reader.specs.declared.Parse.{Parse}
 use Rattle.leaf_reader.specs.declared.Parse.TheVariants.{Term as Found, Missing, Fault}
-use Rattle.leaf_reader.specs.contracts.Parse.{enum as parse-enum}
 use Rattle.nodes.proofs.Table.{formed_less}
 use Rattle.workspace.proofs.Frames.{same_refl}
 use Rattle.term_reader.proofs.Building.{Refused as NoTerm, no_term}
@@ -37,7 +36,6 @@ use Rattle.rule_reader.specs.declared.Form.{Form}
 use Rattle.rule_reader.specs.declared.Form.TheVariants.{Plain, Index, Argument, Region, Unknown}
 use Rattle.rule_reader.specs.declared.Opened.TheVariants.{Rule as OpenRule, Refused}
 use Rattle.rule_reader.specs.contracts.Form.{enum}
-use Rattle.claims.proofs.PartLaws.{neither}
 use Rattle.model_laws.proofs.Steps.{stops, goes_on, not_found, is_found}
 
 -- ---- what stands after a rule byte
@@ -257,13 +255,5 @@ module _ {bytes ws us : List ℕ} {variables top at number : ℕ} (b : Begun byt
   }
 
 -- ---- needs of the code
-pub refused_other : (r : Parse) (size : ℕ) → (variant (declared parse-enum) r ≡ 0) ⊎ (variant (declared parse-enum) r ≡ 1) → ProofExhausted size ≡ refusal_of r size
-refused_other (Found m n l t) size o = refl
-refused_other Missing size o = refl
-refused_other (Fault p) size o = neither (omega arith) (omega arith) o
-
-pub refused_fault : {r : Parse} {p : ℕ} (size : ℕ) → r ≡ Fault p → BadArgument p ≡ refusal_of r size
-refused_fault size e = rw e
-
 pub begun : {bytes : List ℕ} {number at : ℕ} {f form : Form} → at < length bytes → number ≡ get_or bytes at 0 → f ≡ form_of (get_elem? rules number) → f ≡ form → Begun bytes number at form
 begun h e k t = record { there = h; is = e; kind = sym t ∙ k }

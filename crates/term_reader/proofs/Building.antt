@@ -1,6 +1,6 @@
 -- Laws of the reader that builds expressions in the table: one for each way out. Assumes nothing.
 use mathlib.Core.Path.{◌≡◌, refl, sym, ap, subst, ◌∙◌, fun_ext}
-use mathlib.Core.Logic.{⊎_elim, ◌⊎◌}
+use mathlib.Core.Logic.{⊎_elim, ◌⊎◌, inl, inr}
 use mathlib.Core.Option.{some}
 use mathlib.Core.List.{List}
 use Prim.Native.Nat.{ℕ, zero, suc, ◌+◌, ◌-◌, ◌<◌, ◌≤◌}
@@ -36,6 +36,12 @@ variable_same {ws} {us} registers top r s = fun_ext (λ v. at v (dec_lt v regist
 -- ---- an answer that is no term
 abbrev pub Refused : Parse → Type 0
 Refused r = (tag_of (declared enum) r ≡ 1) ⊎ (tag_of (declared enum) r ≡ 2)
+
+-- what an arm after one for a term knows
+pub not_term : (r : Parse) → ((a n l t : ℕ) → r ≡ Found a n l t → ⊥) → Refused r
+not_term (Found a n l t) h = absurd (h a n l t refl)
+not_term Missing h = inl refl
+not_term (Fault p) h = inr refl
 
 pub no_term : {A : Type 0} → (◌≡◌ {A = ℕ} 0 1) ⊎ (◌≡◌ {A = ℕ} 0 2) → A
 no_term o = ⊎_elim (λ (e : 0 ≡ 1). absurd (omega arith)) (λ (e : 0 ≡ 2). absurd (omega arith)) o
