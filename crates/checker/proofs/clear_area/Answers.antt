@@ -8,7 +8,7 @@ pub slice_bounds-clear-end-2 : goal.slice_bounds-clear-end-2
 slice_bounds-clear-end-2 c = sym (length-take-le area_words c.args.workspace.now c.requires)
 
 pub shape_of-workspace : goal.shape_of-workspace
-shape_of-workspace c = length_front c.args.workspace.now c.clear.new.0 area_words c.clear.auto.words
+shape_of-workspace c = length_front c.args.workspace.now c.clear.new.words area_words c.clear.auto.words
 
 pub returns : goal.returns
 returns c = fills.front_cleared c.args.workspace.now _ c.requires c.clear.ensures
