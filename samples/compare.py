@@ -5,7 +5,7 @@ import subprocess
 import sys
 import tempfile
 
-programs, root = sys.argv[1:3]
+root, programs = sys.argv[1:3]
 SHORT = {
     'PS': '01 00 00 00 01 00 00 00 01 00 00 00 00 00 00 00 07 00 00 00',
     'KS': '01 00 00 00 00 00 00 00 01 00 00 00 09 00 00 00 00 00 00 00 02',
@@ -15,8 +15,12 @@ FILES = ('policy.bin', 'routine.bin', 'start.bin')
 NAMES = {'pcc_check': ('verdict', 'place', 'goals'), 'pcc_run': ('run', 'place', 'steps')}
 
 
+def built(program):
+    return os.path.join(programs or os.path.join(root, 'crates', program, 'out'), program)
+
+
 def printed(program, folder):
-    done = subprocess.run([os.path.join(programs, program)], cwd=folder, capture_output=True, text=True, check=False)
+    done = subprocess.run([built(program)], cwd=folder, capture_output=True, text=True, check=False)
     return done.stdout.strip()
 
 
@@ -45,7 +49,7 @@ def cases():
 
 compared = different = 0
 for label, program, contents, expected in cases():
-    if not os.path.exists(os.path.join(programs, program)):
+    if not os.path.exists(built(program)):
         continue
     if isinstance(contents, str):
         got = printed(program, contents)

@@ -1,6 +1,6 @@
 /* Checks a package and, if it is accepted, says how long its proof is.
  *
- * cc -std=c99 -Wall -Wextra -O2 -I host/include host/examples/check.c target/staticlib/libhost_interface.a -o check
+ * cc -std=c99 -Wall -Wextra -O2 -I host/include host/examples/check.c crates/host_interface/out/libhost_interface.a -o check
  *
  * ./check policy.bin routine.bin
  */

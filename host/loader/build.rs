@@ -1,5 +1,5 @@
-//! Finds the proved library: in the folder that `PCC_LIB_DIR` names, else where `rt staticlib`
-//! leaves it in the repository.
+//! Finds the proved library: in the folder that `PCC_LIB_DIR` names, else where `rt lib` leaves it
+//! in the repository.
 
 use std::path::{Path, PathBuf};
 use std::{env, process};
@@ -12,13 +12,13 @@ fn main() {
     let manifest = PathBuf::from(env::var_os("CARGO_MANIFEST_DIR").expect("set by cargo"));
     let folder = match env::var_os("PCC_LIB_DIR") {
         Some(folder) => manifest.join(folder),
-        None => manifest.join("../../target/staticlib"),
+        None => manifest.join("../../crates/host_interface/out"),
     };
     let library = folder.join(LIBRARY);
     println!("cargo:rerun-if-changed={}", library.display());
     if !Path::new(&library).is_file() {
         eprintln!("error: the proved library is not there: {}", library.display());
-        eprintln!("  build it with `rt staticlib host_interface` in the repository's root,");
+        eprintln!("  build it with `rt lib` in the repository's folder crates/host_interface,");
         eprintln!("  or set PCC_LIB_DIR to the absolute path of the folder that has {LIBRARY}");
         process::exit(1);
     }

@@ -2,6 +2,7 @@
 #![tactic(auto)]
 
 use limits::{LEAST_WORKSPACE, MOST_BYTES};
+use std::io;
 
 // The bytes of each file that can decide the answer, and one more.
 const POLICY: usize = 6189;
@@ -11,26 +12,27 @@ const ROUTINE: usize = MOST_BYTES + 1;
 // The workspace that document 01 asks for at least.
 const WORDS: usize = LEAST_WORKSPACE;
 
-fn main() {
+fn main(rt: HostRuntime) -> io::Result<()> {
     let mut policy = [0u8; POLICY];
-    let first = console::load(b"policy.bin", &mut policy);
+    let first = console::load(&rt, "policy.bin", &mut policy);
     if !first.readable {
-        return;
+        return Ok(());
     }
     let mut routine = [0u8; ROUTINE];
-    let second = console::load(b"routine.bin", &mut routine);
+    let second = console::load(&rt, "routine.bin", &mut routine);
     if !second.readable {
-        return;
+        return Ok(());
     }
     let mut workspace = [0u32; WORDS];
     let p = first.bytes;
     let r = second.bytes;
     let verdict = loader::check(&mut workspace, &policy[..p], &routine[..r]);
     console::print_answer(
-        b"verdict",
+        &rt,
+        "verdict",
         verdict.number,
         verdict.place,
-        b"goals",
+        "goals",
         verdict.goals as u64,
-    );
+    )
 }

@@ -1,10 +1,6 @@
--- What a start file's bytes stand for, and parts of arrays. Assumes nothing.
-use Prim.Native.Nat.{ℕ, ◌≤◌, ◌<◌}
-use mathlib.Core.Path.{◌≡◌, sym, ap, ◌∙◌}
-use mathlib.Core.List.{List}
-use native.Mathlib.Omega.{arith}
+-- What a start file's bytes stand for. Assumes nothing.
+use Rattle.std.proofs.Common.{◌≡◌, ℕ, ◌≤◌, ◌<◌, List, length, ap, ◌∙◌}
 use borrow.Author.Tests.{lt-ltb, le-ltb}
-use lib.ListN.{length, take, length-take}
 use Rattle.model.specs.Word.{le32}
 use Rattle.model.specs.Runner.{Run, run_of}
 use Rattle.console.specs.Words.{words_from}
@@ -18,10 +14,6 @@ pub some_budget : (start : List ℕ) (r : ℕ) → 4 ≤ length start → r ≡ 
 unfolding budget_in
 some_budget start r h e = rw (le-ltb (length start) 4 h, budget_in) e
 
--- so many elements at the start of a list that has them
-pub counted : (xs : List ℕ) (n : ℕ) → n ≤ length xs → n ≡ length (take n xs)
-counted xs n h = omega (arith, length-take n xs)
-
 -- the run on the words that were read
 pub ran : (policy routine start registers memory : List ℕ) (budget m n : ℕ) (r : Run)
     → r ≡ run_of policy routine registers memory budget
@@ -33,6 +25,3 @@ unfolding registers_in memory_in
 ran policy routine start registers memory budget m n r e p q u v b =
     ap (λ (x : Run). x.outcome) e
     ∙ (λ j. (run_of policy routine ((p ∙ ap (words_from start 1) q) j) ((u ∙ ap (words_from start memory_at) v) j) (b j)).outcome)
-
-pub filled : (xs : List ℕ) (n m : ℕ) → n ≤ length xs → n ≡ m → length (take n xs) ≡ m
-filled xs n m h e = sym (counted xs n h) ∙ e

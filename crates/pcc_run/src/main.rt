@@ -7,6 +7,7 @@ ghost use Rattle.pcc_run.specs.Start.{most_start, budget_in, register_words, mem
 
 use limits::{MOST_BYTES, MOST_MEMORY, REGISTERS};
 use model::Outcome;
+use std::io;
 
 // The bytes of each file that can decide the answer, and one more.
 const POLICY: usize = 6189;
@@ -80,31 +81,32 @@ fn run_start(policy: &[u8], routine: &[u8], start: &[u8]) -> Outcome
     )
 }
 
-fn main() {
+fn main(rt: HostRuntime) -> io::Result<()> {
     let mut policy = [0u8; POLICY];
-    let first = console::load(b"policy.bin", &mut policy);
+    let first = console::load(&rt, "policy.bin", &mut policy);
     if !first.readable {
-        return;
+        return Ok(());
     }
     let mut routine = [0u8; ROUTINE];
-    let second = console::load(b"routine.bin", &mut routine);
+    let second = console::load(&rt, "routine.bin", &mut routine);
     if !second.readable {
-        return;
+        return Ok(());
     }
     let mut start = [0u8; START];
-    let third = console::load(b"start.bin", &mut start);
+    let third = console::load(&rt, "start.bin", &mut start);
     if !third.readable {
-        return;
+        return Ok(());
     }
     let p = first.bytes;
     let r = second.bytes;
     let s = third.bytes;
     let outcome = run_start(&policy[..p], &routine[..r], &start[..s]);
     console::print_answer(
-        b"run",
+        &rt,
+        "run",
         outcome.number,
         outcome.place,
-        b"steps",
+        "steps",
         outcome.steps as u64,
-    );
+    )
 }

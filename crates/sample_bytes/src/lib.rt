@@ -25,11 +25,9 @@ pub fn word(out: &mut [u8], at: usize, x: u32) -> usize {
 
 // The same byte so many times.
 pub fn repeat(out: &mut [u8], at: usize, x: u8, times: u32) -> usize {
-    let mut left = times;
     let mut next = at;
-    while 0 < left {
+    for _ in 0..times {
         next = byte(out, next, x);
-        left -= 1;
     }
     next
 }

@@ -2,6 +2,7 @@
 #![tactic(auto)]
 
 use limits::{LEAST_WORKSPACE, MOST_BYTES};
+use std::io;
 
 // The workspace that document 01 asks for at least.
 const WORDS: usize = LEAST_WORKSPACE;
@@ -9,19 +10,19 @@ const WORDS: usize = LEAST_WORKSPACE;
 // One byte more than the longest package.
 const BYTES: usize = MOST_BYTES + 1;
 
-fn main() {
+fn main(rt: HostRuntime) -> io::Result<()> {
     let mut workspace = [0u32; WORDS];
     let mut policy = [0u8; 256];
     let mut routine = [0u8; BYTES];
-    edges::instruction_counts(&mut workspace, &mut policy, &mut routine);
-    policy_edges::memory_sizes(&mut workspace, &mut policy, &mut routine);
-    policy_edges::region_past_memory(&mut workspace, &mut policy, &mut routine);
-    term_edges::depths(&mut workspace, &mut policy, &mut routine);
-    policy_edges::node_counts(&mut workspace, &mut policy, &mut routine);
-    term_edges::term_sizes(&mut workspace, &mut policy, &mut routine);
-    term_edges::doubled_term(&mut workspace, &mut policy, &mut routine);
-    term_edges::shift_immediates(&mut workspace, &mut policy, &mut routine);
-    policy_edges::shift_counts(&mut workspace, &mut policy, &mut routine);
-    edges::longest(&mut workspace, &mut policy, &mut routine);
-    edges::short_workspace(&mut workspace, &mut policy, &mut routine);
+    edges::instruction_counts(&rt, &mut workspace, &mut policy, &mut routine)?;
+    policy_edges::memory_sizes(&rt, &mut workspace, &mut policy, &mut routine)?;
+    policy_edges::region_past_memory(&rt, &mut workspace, &mut policy, &mut routine)?;
+    term_edges::depths(&rt, &mut workspace, &mut policy, &mut routine)?;
+    policy_edges::node_counts(&rt, &mut workspace, &mut policy, &mut routine)?;
+    term_edges::term_sizes(&rt, &mut workspace, &mut policy, &mut routine)?;
+    term_edges::doubled_term(&rt, &mut workspace, &mut policy, &mut routine)?;
+    term_edges::shift_immediates(&rt, &mut workspace, &mut policy, &mut routine)?;
+    policy_edges::shift_counts(&rt, &mut workspace, &mut policy, &mut routine)?;
+    edges::longest(&rt, &mut workspace, &mut policy, &mut routine)?;
+    edges::short_workspace(&rt, &mut workspace, &mut policy, &mut routine)
 }
