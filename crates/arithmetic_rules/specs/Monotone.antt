@@ -1,6 +1,6 @@
 -- Rules of arithmetic that differ in an operation. Assumes nothing.
 use Rattle.std.specs.Prelude.{List, ◌∷◌, []}
-use Rattle.model.specs.Result.{Fit, value, ◌>>=◌, check, misfit}
+use Rattle.model.specs.Result.{Fit, value, ◌>>=◌}
 use Rattle.model.specs.Term.{Term, sum}
 use Rattle.model.specs.Atom.{Atom, at_most}
 use Rattle.model.specs.Goals.{Claim as Claimed}

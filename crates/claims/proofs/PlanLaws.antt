@@ -18,7 +18,7 @@ use Rattle.workspace.proofs.Frames.{same_refl, same_trans, same_within}
 use Rattle.nodes.proofs.Table.{term_same, formed_same, formed_less}
 use Rattle.claims.proofs.PartLaws.{neither, NotAtom}
 use Rattle.claims.specs.Parts.{claim_of, ClaimBelow, Sides, Operands, Shifts, Congruent}
-use Rattle.claims.specs.Plan.{premise, blank, plan, atom_in, Grows, Planned, Anywhere, asks, always, premise_at, premises_from, premises_of, rest_of, PremiseBelow}
+use Rattle.claims.specs.Plan.{premise, blank, plan, atom_in, Grows, Planned, Anywhere, always, premise_at, premises_from, premises_of, rest_of, PremiseBelow}
 use Rattle.claims.specs.declared.Claim.{Claim}
 use Rattle.claims.specs.declared.Claim.TheVariants.{Atom as AtomClaim, Readable, Writable}
 use Rattle.claims.specs.declared.Premise.{Premise}

@@ -3,7 +3,7 @@ use mathlib.Core.Path.{◌≡◌, refl, sym, ap, ◌∙◌}
 use mathlib.Core.Logic.{◌≢◌}
 use mathlib.Core.Bool.{Bool, true, false, not, ◌&&◌, and-true, and-false}
 use mathlib.Core.List.{List}
-use Prim.Native.Nat.{ℕ, zero, suc, ◌+◌, ◌*◌, ◌%◌, ◌^◌, ◌≤◌, ◌<◌}
+use Prim.Native.Nat.{ℕ, zero, suc, ◌+◌, ◌%◌, ◌^◌, ◌≤◌, ◌<◌}
 use native.Mathlib.Omega.{arith}
 use native.Mathlib.Decide.{dec_lt, ℕ_discrete}
 use lib.ListN.{get_or}
@@ -16,10 +16,9 @@ use Rattle.model.proofs.Terms.{and_left, and_right}
 use Rattle.model.proofs.Indeterminates.{same_everywhere, same_in_list}
 use Rattle.model.proofs.Words.{◌≈◌, same_word, add_cong, add_cancel, add_plain, sub_plain, add_below, sub_below}
 use Rattle.workspace.specs.Layout.{constant_word, area_words}
-use Rattle.nodes.specs.Table.{plain, value_of}
-use Rattle.nodes.proofs.Facts.{kept_value}
+use Rattle.nodes.specs.Table.{plain}
 use Rattle.forms.specs.Area.{form_if, form_at, signed, all_zero}
-use Rattle.forms.specs.Entries.{opaque, Entry, in_word, of_term, Valid, number_at, Unlike}
+use Rattle.forms.specs.Entries.{opaque, Entry, in_word, of_term, number_at, Unlike}
 
 pub clash : {A : Type 0} {b : Bool} → b ≡ false → b ≡ true → A
 clash h e = absurd (let z : ◌≡◌ {A = ℕ} 0 1 = cc in omega arith)

@@ -1,6 +1,6 @@
 -- Rules of memory that differ in a right. Assumes nothing.
 use Rattle.std.specs.Prelude.{List, eqb, ℕ}
-use Rattle.model.specs.Result.{Fit, misfit, check, ◌>>=◌, value}
+use Rattle.model.specs.Result.{Fit, misfit, check, ◌>>=◌}
 use Rattle.model.specs.Term.{Term}
 use Rattle.model.specs.Atom.{Atom}
 use Rattle.model.specs.Policy.{Policy}

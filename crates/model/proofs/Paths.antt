@@ -9,7 +9,6 @@ use native.Mathlib.Omega.{arith}
 use lib.ListN.{length, get_elem?, get_or, set, length-set, get_or-map}
 use Rattle.model.specs.Annotation.{Annotation}
 use Rattle.model.specs.Atom.{Atom, at_most, Compares, Holds, AllHold, registers_of}
-use Rattle.model.specs.Expression.{register_count}
 use Rattle.model.specs.Goals.{Path, term_of, address_term, goal_of, path_to, onward, assuming, atom_goals, arrival, returning, atom, readable, writable}
 use Rattle.model.specs.Machine.{State, word, address, assigned, stored, jumped, step, next, returns, without_right, past_end}
 use Rattle.model.specs.Policy.{Policy, readable_word, writable_word}

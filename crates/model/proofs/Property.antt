@@ -12,7 +12,7 @@ use borrow.Author.Tests.{eq-eqb}
 use Rattle.model.specs.Annotation.{Annotation, annotation_at}
 use Rattle.model.specs.Atom.{Atom, AllHold, registers_of}
 use Rattle.model.specs.Goals.{register_variables, block_start, arrival, landing, walk, entry_block, annotation_block, annotation_blocks, trace_of, finish}
-use Rattle.model.specs.Machine.{State, start_of, returns}
+use Rattle.model.specs.Machine.{State, start_of}
 use Rattle.model.specs.Package.{code_of}
 use Rattle.model.specs.Policy.{Policy, read_policy}
 use Rattle.model.specs.Property.{Words, Returns, Property}

@@ -7,7 +7,7 @@ use native.Mathlib.Nat.{add-zero}
 use native.Mathlib.Omega.{arith}
 use lib.ListN.{get_elem?}
 use Rattle.model.specs.Annotation.{Annotation, annotation_at}
-use Rattle.model.specs.Atom.{less, AllHold, registers_of}
+use Rattle.model.specs.Atom.{AllHold, registers_of}
 use Rattle.model.specs.Machine.{State, execute, step, advance, after, next, returns, running, returned}
 use Rattle.model.specs.Policy.{Policy}
 use Rattle.model.specs.Property.{Words, Ready}

@@ -3,9 +3,9 @@ use mathlib.Core.Path.{◌≡◌, refl, sym, ap, subst, ◌∙◌}
 use mathlib.Core.Logic.{◌≢◌}
 use mathlib.Core.Bool.{Bool, true, false, not, ◌&&◌, and-false}
 use mathlib.Core.List.{List}
-use Prim.Native.Nat.{ℕ, zero, suc, ◌+◌, ◌-◌, ◌*◌, ◌%◌, ◌^◌, ◌≤◌, ◌<◌}
+use Prim.Native.Nat.{ℕ, suc, ◌+◌, ◌-◌, ◌*◌, ◌%◌, ◌^◌, ◌≤◌, ◌<◌}
 use native.Mathlib.Omega.{arith}
-use native.Mathlib.Decide.{dec_lt, ℕ_discrete}
+use native.Mathlib.Decide.{ℕ_discrete}
 use lib.ListN.{length, get_or, set, length-set}
 use lib.Dec.{eqb}
 use borrow.Author.Tests.{eqb-true, eqb-false}
@@ -13,13 +13,13 @@ use Rattle.model.specs.Word.{add_w}
 use Rattle.model.specs.Term.{Term, closed, eq_term}
 use Rattle.model.specs.Linear.{coefficient_of}
 use Rattle.model.proofs.Terms.{same_term, term_same, and_left, and_right}
-use Rattle.model.proofs.Words.{◌≈◌, same_word}
+use Rattle.model.proofs.Words.{◌≈◌}
 use Rattle.workspace.specs.Layout.{Same, area_words, hint_base, most_table_nodes}
 use Rattle.workspace.proofs.Frames.{same_refl, same_trans, set_before}
 use Rattle.nodes.specs.Table.{place, value_at, valued_at, term_at, plain, Formed, Shaped}
 use Rattle.nodes.proofs.Table.{formed_less, marks_here}
 use Rattle.nodes.proofs.Facts.{no_value_zero, valued_at_lem}
-use Rattle.forms.specs.Entries.{opaque, Entry, of_term, number_at, Unlike}
+use Rattle.forms.specs.Entries.{opaque, of_term, Unlike}
 use Rattle.weights.specs.Weights.{total, weighs_at, Loaded, Partner, Settleable, Unsettled, Settled, Spread, Reckoned}
 use Rattle.forms.proofs.Forms.{clash, opaque_coefficient, plain_coefficient, coefficient_word}
 use Rattle.weights.proofs.Weights.{total_same, total_zero, total_more, valued_kept, value_kept, term_kept, shaped_kept, loaded_set, weight_other, weight_own, opaque_plain}

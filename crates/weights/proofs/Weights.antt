@@ -12,16 +12,16 @@ use lib.Seq.{get_or-set_same, get_or-set_other}
 use lib.Dec.{eqb}
 use denote.Enum.Declared.{tag_of as variant, declared}
 use Rattle.model.specs.Word.{add_w, sub_w}
-use Rattle.model.specs.Term.{Term, constant, variable, sum, difference, mask, shift, closed, root_of}
+use Rattle.model.specs.Term.{Term, constant, variable, sum, difference, mask, shift, closed}
 use Rattle.model.specs.Linear.{variable_bound}
 use Rattle.model.proofs.Words.{◌≈◌, mul_cong, add_cong, add_plain, sub_plain, add_below}
 use Rattle.model.proofs.Terms.{and_left, and_right}
 use Rattle.workspace.specs.Layout.{table_base, constant_word, area_words, hint_base}
-use Rattle.nodes.specs.Table.{place, parts_at, value_at, marks_at, valued_at, node_of_tag, view_of, build, term_at, plain, InOrder, Shaped, Formed}
+use Rattle.nodes.specs.Table.{place, parts_at, value_at, marks_at, valued_at, node_of_tag, view_of, term_at, plain, InOrder, Shaped, Formed}
 use Rattle.nodes.specs.declared.Node.{Node}
 use Rattle.nodes.specs.declared.Node.TheVariants.{Constant, Variable, Sum, Difference, Mask, Shift}
 use Rattle.nodes.specs.contracts.Node.{enum as node-enum}
-use Rattle.nodes.proofs.Table.{formed_less, node_order, node_built, marks_here, built_here, term_viewed, shaped_viewed}
+use Rattle.nodes.proofs.Table.{formed_less, node_order, node_built, marks_here, term_viewed, shaped_viewed}
 use Rattle.nodes.proofs.Facts.{valued_at_lem, value_is_kept, no_value_zero}
 use Rattle.forms.specs.Area.{form_at, Comparable}
 use Rattle.forms.specs.Entries.{opaque, Entry, in_word, of_term, Valid, number_at}

@@ -1,5 +1,5 @@
 -- How the lent workspace is laid out, and what a function keeps of it. Assumes nothing.
-use Rattle.std.specs.Prelude.{◌≡◌, List, ℕ, ◌+◌, ◌-◌, ◌*◌, ◌/◌, ◌<◌, ◌≤◌, get_or, set}
+use Rattle.std.specs.Prelude.{◌≡◌, List, ℕ, ◌+◌, ◌-◌, ◌/◌, ◌<◌, ◌≤◌, get_or, set}
 use Rattle.model.specs.Atom.{most_atoms}
 use Rattle.model.specs.Expression.{register_count}
 use Rattle.model.specs.Verdict.{least_workspace}

@@ -1,6 +1,5 @@
 use borrow.Enum.Refused.{opened}
 use native.Mathlib.Omega.{arith}
-use Prim.Native.Nat.{◌<◌}
 use Rattle.atom_reader.specs.AtomReader.{atom_nodes}
 use Rattle.paths.proofs.Walking.{path_ready}
 use Rattle.blocks.proofs.Starting.{assume_none, assume_unread, assuming_asks, assume_asks, assume_more}

@@ -1,4 +1,3 @@
-use Prim.Native.Nat.{◌-◌}
 use Rattle.blocks.proofs.Starting.{filling_none, filling_asks, filling_more, filled}
 use Rattle.blocks.proofs.variables.Goals as goal
 

@@ -1,4 +1,3 @@
-use Prim.Native.Nat.{◌<◌}
 use native.Mathlib.Omega.{arith}
 use Rattle.derivation.proofs.DerivationLaws.{derivable_one, too_deep, rule_refused, rule_applied, all_derived, premise_asks, one_fewer, premise_refused, premise_derived}
 use Rattle.derivation.proofs.+derive.Goals as goal

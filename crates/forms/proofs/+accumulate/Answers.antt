@@ -1,6 +1,5 @@
 use native.Mathlib.Omega.{arith}
 use Rattle.forms.proofs.Laws.{first, second, sum_parts, difference_parts, variable_within, not_opaque, accumulated_constant, accumulated_variable, accumulated_sum, accumulated_difference}
-use Prim.Native.Nat.{◌<◌}
 use Rattle.forms.proofs.+accumulate.Goals as goal
 
 pub change-requires-in-Variable : goal.change-requires-in-Variable

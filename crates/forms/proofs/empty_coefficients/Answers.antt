@@ -1,4 +1,3 @@
-use Prim.Native.Nat.{◌-◌}
 use Rattle.forms.proofs.Laws.{taken_none, taken_more, taken_all}
 use borrow.Author.Rules.{rules}
 use native.Mathlib.Omega.{arith}

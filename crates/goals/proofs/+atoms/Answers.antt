@@ -1,6 +1,5 @@
 use borrow.Enum.Refused.{opened}
 use native.Mathlib.Omega.{arith}
-use Prim.Native.Nat.{◌<◌}
 use Rattle.atom_reader.specs.AtomReader.{atom_nodes}
 use Rattle.paths.proofs.Walking.{path_ready}
 use Rattle.goals.proofs.Settling.{atom_asks, atoms_none, atoms_unread, atoms_stopped, others_ask, atoms_more}

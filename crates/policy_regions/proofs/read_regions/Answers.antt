@@ -1,4 +1,3 @@
-use Prim.Native.Nat.{◌-◌}
 use mathlib.Core.Path.{refl}
 use Rattle.policy_regions.proofs.RegionsLaws as laws
 use Rattle.policy_regions.proofs.read_regions.Goals as goal

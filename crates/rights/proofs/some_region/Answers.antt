@@ -1,4 +1,3 @@
-use Prim.Native.Nat.{◌-◌}
 use Rattle.rights.proofs.Rights as rights
 use Rattle.rights.proofs.some_region.Goals as goal
 

@@ -1,5 +1,4 @@
 use mathlib.Core.Path.{◌∙◌}
-use Prim.Native.Nat.{◌-◌}
 use Rattle.runs.proofs.Runs as runs
 use Rattle.runs.proofs.run_code.Goals as goal
 

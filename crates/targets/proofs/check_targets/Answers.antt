@@ -1,4 +1,3 @@
-use Prim.Native.Nat.{◌-◌}
 use Rattle.targets.proofs.Jumps.{targets_start, targets_more, targets_refused, targets_done}
 use Rattle.targets.proofs.check_targets.Goals as goal
 

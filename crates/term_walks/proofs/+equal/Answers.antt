@@ -1,9 +1,8 @@
 use mathlib.Core.Path.{sym, ◌∙◌}
 use native.Mathlib.Omega.{arith}
-use borrow.Author.Tests.{eqb-true, eqb-false, not-true, not-false}
+use borrow.Author.Tests.{eqb-true, eqb-false}
 use Rattle.nodes.proofs.Table.{shaped_part}
 use Rattle.term_walks.proofs.Walks.{same_twin, same_facts, same_leaf, first_parts, first_differs, second_parts, same_count, same_second}
-use Prim.Native.Nat.{◌<◌}
 use Rattle.term_walks.proofs.+equal.Goals as goal
 
 pub returns-then-twins : goal.returns-then-twins

@@ -3,7 +3,6 @@ use native.Mathlib.Omega.{arith}
 use Rattle.nodes.proofs.Table.{part, first_part, second_part}
 use Rattle.nodes.proofs.Facts.{value_is_kept}
 use Rattle.term_walks.proofs.Walks.{reduced_leaf, reduced_pair, reduced_shift}
-use Prim.Native.Nat.{◌<◌}
 use Rattle.term_walks.proofs.+reduced.Goals as goal
 
 pub returns-then-holds_value : goal.returns-then-holds_value

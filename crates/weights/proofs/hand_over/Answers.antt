@@ -1,5 +1,4 @@
 use native.Mathlib.Omega.{arith}
-use borrow.Author.Tests.{not-true, not-false}
 use Rattle.weights.proofs.Settling.{settle_room, settle_shape, settled_none, settled_alone, settled_paired}
 use Rattle.weights.proofs.hand_over.Goals as goal
 

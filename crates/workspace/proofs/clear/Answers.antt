@@ -1,4 +1,3 @@
-use Prim.Native.Nat.{◌-◌}
 use Rattle.workspace.proofs.Fills as fills
 use Rattle.workspace.proofs.clear.Goals as goal
 

@@ -1,4 +1,3 @@
-use Prim.Native.Nat.{◌-◌}
 use mathlib.Core.Path.{refl}
 use Rattle.annotations.proofs.Tables.{next_below, note_start, note_more, note_refused, note_spare, note_done}
 use native.Mathlib.Omega.{arith}

@@ -1,5 +1,4 @@
 use mathlib.Core.Path.{refl, ◌∙◌}
-use Prim.Native.Nat.{◌-◌}
 use Rattle.evaluation.proofs.BlockLaws.{none_passed, block_stops, block_passes, blocks_end}
 use Rattle.evaluation.proofs.all_blocks.annotations.Goals as goal
 

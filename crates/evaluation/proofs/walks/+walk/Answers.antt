@@ -1,7 +1,6 @@
 use mathlib.Core.Path.{◌∙◌}
 use Rattle.evaluation.proofs.WalkLaws.{walk_done, one_room, after_asks, walk_asks, walk_arrives, walk_goes, walk_ends, walk_refuses}
 use native.Mathlib.Omega.{arith}
-use Prim.Native.Nat.{◌<◌}
 use Rattle.evaluation.proofs.walks.+walk.Goals as goal
 
 pub returns-then-left-eq0 : goal.returns-then-left-eq0

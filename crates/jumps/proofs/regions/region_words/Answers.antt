@@ -1,5 +1,4 @@
 use mathlib.Core.Path.{refl}
-use Prim.Native.Nat.{◌-◌}
 use Rattle.jumps.proofs.RegionLaws.{none_written, written_more, all_written}
 use native.Mathlib.Omega.{arith}
 use Rattle.jumps.proofs.regions.region_words.Goals as goal

@@ -1,4 +1,3 @@
-use Prim.Native.Nat.{◌-◌}
 use Rattle.routine.proofs.Codes.{check_start, check_more, check_refused, check_done}
 use Rattle.routine.proofs.instructions.check_code.Goals as goal
 

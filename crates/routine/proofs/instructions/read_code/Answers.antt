@@ -1,5 +1,4 @@
 use mathlib.Core.Path.{refl}
-use Prim.Native.Nat.{◌-◌}
 use Rattle.routine.proofs.Codes.{read_start_lem, read_more, read_refused, read_done}
 use Rattle.model.specs.Package.{most_instructions}
 use Rattle.routine.proofs.instructions.read_code.Goals as goal

@@ -1,4 +1,3 @@
-use Prim.Native.Nat.{◌-◌}
 use Rattle.targets.proofs.Searches.{start, more, found, nothing}
 use Rattle.targets.proofs.search.position.Goals as goal
 
