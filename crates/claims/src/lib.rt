@@ -7,7 +7,7 @@ pub mod plans;
 use limits::MOST_REGIONS;
 use model::Comparison;
 
-// regionWords: the policy's regions as words, three a region.
+// region_words: the policy's regions as words, three a region.
 pub const REGION_WORDS: usize = 3 * MOST_REGIONS;
 
 // What a goal or a premise claims; terms are nodes of the table.

@@ -18,6 +18,12 @@ pub struct Loaded {
     pub bytes: usize,
 }
 
+// A file that cannot be read.
+const UNREADABLE: Loaded = Loaded {
+    readable: false,
+    bytes: 0,
+};
+
 // Reads until the buffer is full or the input ends, and answers how many bytes were read.
 fn fill<R: Read>(input: &mut R, buf: &mut [u8]) -> io::Result<usize>
     ensures within { IfOk result (λ n. IsPrefixLen n buf.new) }
@@ -43,8 +49,8 @@ fn read_file<R: Files>(rt: &R, name: &str, buf: &mut [u8]) -> io::Result<usize>
     fill(&mut file, buf)
 }
 
-// The bytes of a file, as many as the buffer holds.
-pub fn load<R: Files + Eprint>(rt: &R, name: &str, buf: &mut [u8]) -> Loaded
+// The bytes of a file whose name is text.
+fn load_named<R: Files + Eprint>(rt: &R, name: &str, buf: &mut [u8]) -> Loaded
     ensures { IsPrefixLen result.bytes buf.new }
 {
     match read_file(rt, name, buf) {
@@ -54,10 +60,28 @@ pub fn load<R: Files + Eprint>(rt: &R, name: &str, buf: &mut [u8]) -> Loaded
         },
         Err(error) => {
             let _ = eprintln!(rt; "{name}: {error}");
-            Loaded {
-                readable: false,
-                bytes: 0,
-            }
+            UNREADABLE
+        }
+    }
+}
+
+// Names a file on standard error whose name is no text, each byte as a character.
+fn complain<R: Eprint>(rt: &R, name: &[u8]) {
+    for byte in name {
+        let _ = eprint!(rt; "{}", char::from(*byte));
+    }
+    let _ = eprintln!(rt; ": no file has such a name");
+}
+
+// The bytes of a file, as many as the buffer holds.
+pub fn load<R: Files + Eprint>(rt: &R, name: &[u8], buf: &mut [u8]) -> Loaded
+    ensures { IsPrefixLen result.bytes buf.new }
+{
+    match str::from_utf8(name) {
+        Ok(text) => load_named(rt, text, buf),
+        Err(_) => {
+            complain(rt, name);
+            UNREADABLE
         }
     }
 }
@@ -75,11 +99,14 @@ pub fn words(bytes: &[u8], first: usize, out: &mut [u32])
 // Prints an answer of three named numbers as a line, as in `verdict=0 place=0 goals=1`.
 pub fn print_answer<R: Print>(
     rt: &R,
-    name: &str,
+    name: &[u8],
     number: u32,
     place: usize,
-    counted: &str,
+    counted: &[u8],
     count: u64,
 ) -> io::Result<()> {
-    println!(rt; "{name}={number} place={place} {counted}={count}")
+    rt.write_all(name)?;
+    print!(rt; "={number} place={place} ")?;
+    rt.write_all(counted)?;
+    println!(rt; "={count}")
 }

@@ -7,19 +7,20 @@ use std::io;
 // Checks a package under a policy and prints the answer after the sample's name.
 fn show<R: Print>(
     rt: &R,
-    name: &str,
+    name: &[u8],
     workspace: &mut [u32],
     policy: &[u8],
     routine: &[u8],
 ) -> io::Result<()> {
-    print!(rt; "{name}: ")?;
+    rt.write_all(name)?;
+    print!(rt; ": ")?;
     let verdict = loader::check(workspace, policy, routine);
     console::print_answer(
         rt,
-        "verdict",
+        b"verdict",
         verdict.number,
         verdict.place,
-        "goals",
+        b"goals",
         verdict.goals as u64,
     )
 }
@@ -27,7 +28,7 @@ fn show<R: Print>(
 // Checks the package of so many bytes at the start of a buffer under the policy of so many bytes at the start of another.
 pub fn show_parts<R: Print>(
     rt: &R,
-    name: &str,
+    name: &[u8],
     workspace: &mut [u32],
     policy: &[u8],
     p: usize,
@@ -49,9 +50,9 @@ pub fn instruction_counts<R: Print>(
 ) -> io::Result<()> {
     let p = sample_bytes::policy(policy, 1, 256, 0, 1);
     let r = sample_bytes::assignments(routine, 255);
-    show_parts(rt, "n = 256", workspace, policy, p, routine, r)?;
+    show_parts(rt, b"n = 256", workspace, policy, p, routine, r)?;
     let r = sample_bytes::assignments(routine, 256);
-    show_parts(rt, "n = 257", workspace, policy, p, routine, r)
+    show_parts(rt, b"n = 257", workspace, policy, p, routine, r)
 }
 
 // The longest package, and one byte more.
@@ -63,9 +64,9 @@ pub fn longest<R: Print>(
 ) -> io::Result<()> {
     let p = sample_bytes::policy(policy, 1, 1, 0, 1);
     let r = sample_bytes::padded(routine, 65536);
-    show_parts(rt, "65536 bytes", workspace, policy, p, routine, r)?;
+    show_parts(rt, b"65536 bytes", workspace, policy, p, routine, r)?;
     let r = sample_bytes::padded(routine, 65537);
-    show_parts(rt, "65537 bytes", workspace, policy, p, routine, r)
+    show_parts(rt, b"65537 bytes", workspace, policy, p, routine, r)
 }
 
 // A workspace one word too short.
@@ -77,11 +78,11 @@ pub fn short_workspace<R: Print>(
 ) -> io::Result<()> {
     let p = sample_bytes::policy(policy, 1, 1, 0, 1);
     let r = sample_bytes::assignments(routine, 0);
-    show_parts(rt, "16384 words", workspace, policy, p, routine, r)?;
+    show_parts(rt, b"16384 words", workspace, policy, p, routine, r)?;
     if 16383 <= workspace.len() {
         show_parts(
             rt,
-            "16383 words",
+            b"16383 words",
             &mut workspace[..16383],
             policy,
             p,

@@ -1,4 +1,4 @@
--- The laws of `expressionAt`, `atomAt` and `atoms_at`, one for each way out of the code. Assumes nothing.
+-- The laws of `expression_at`, `atom_at` and `atoms_at`, one for each way out of the code. Assumes nothing.
 use Prim.Native.Nat.{ℕ, zero, suc, ◌+◌, ◌-◌, ◌≤◌, ◌<◌, max}
 use mathlib.Core.Path.{◌≡◌, refl, ap, ◌∙◌}
 use mathlib.Core.Logic.{⊎_elim}

@@ -1,4 +1,4 @@
--- The laws of `nodesAt`, one for each way out of `variable`, `count` and `nodes`. Assumes nothing.
+-- The laws of `nodes_at`, one for each way out of `variable`, `count` and `nodes`. Assumes nothing.
 use Prim.Native.Nat.{ℕ, zero, suc, ◌+◌, ◌-◌, ◌≤◌, ◌<◌}
 use mathlib.Core.Path.{◌≡◌, refl, sym, ap, ◌∙◌}
 use mathlib.Core.Logic.{⊎_elim}

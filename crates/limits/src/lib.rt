@@ -2,38 +2,38 @@
 // one are proved against that definition.
 #![tactic(auto)]
 
-// mostInstructions: instructions of a routine.
+// most_instructions: instructions of a routine.
 pub const MOST_INSTRUCTIONS: usize = 256;
 
-// mostAnnotations: annotations of a routine.
+// most_annotations: annotations of a routine.
 pub const MOST_ANNOTATIONS: usize = 64;
 
-// mostBytes: bytes of a package.
+// most_bytes: bytes of a package.
 pub const MOST_BYTES: usize = 65536;
 
-// mostRegions: regions of a policy.
+// most_regions: regions of a policy.
 pub const MOST_REGIONS: usize = 8;
 
-// mostAtoms: atoms of a condition or an annotation.
+// most_atoms: atoms of a condition or an annotation.
 pub const MOST_ATOMS: usize = 16;
 
-// mostMemory: words of memory.
+// most_memory: words of memory.
 pub const MOST_MEMORY: u32 = 16384;
 
-// registerCount: registers of the machine, which are the first variables of a block.
+// register_count: registers of the machine, which are the first variables of a block.
 pub const REGISTERS: usize = 16;
 
-// mostNodes: nodes of an expression.
+// most_nodes: nodes of an expression.
 pub const MOST_NODES: u32 = 31;
 
-// mostCount: bits that a shift may shift by.
+// most_count: bits that a shift may shift by.
 pub const MOST_COUNT: u32 = 31;
 
-// mostTermNodes: nodes of a register's term.
+// most_term_nodes: nodes of a register's term.
 pub const MOST_TERM_NODES: u32 = 255;
 
-// mostLevels: levels of a derivation.
+// most_levels: levels of a derivation.
 pub const MOST_LEVELS: usize = 32;
 
-// leastWorkspace: words of the lent workspace, at least.
+// least_workspace: words of the lent workspace, at least.
 pub const LEAST_WORKSPACE: usize = 16384;

@@ -210,7 +210,7 @@ module _ (policy : Policy) (fit : RegionsFit policy) (g : Goal) (env : ℕ → �
   zero_at_most_sound c =
       gives_then (sides policy env AtMost c) λ s enough. gives_then (same s.0 (constant 0)) λ _ e. gives (λ _. enough (omega arith))
 
-  -- ---- rules 14 to 18: linear arithmetic with the wrap of `add_w` and `subW`
+  -- ---- rules 14 to 18: linear arithmetic with the wrap of `add_w` and `sub_w`
 
   sum_monotone_sound : SoundRule sum_monotone
   unfolding premises Compares AllHold Holds eval add_w

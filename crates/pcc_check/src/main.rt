@@ -14,12 +14,12 @@ const WORDS: usize = LEAST_WORKSPACE;
 
 fn main(rt: HostRuntime) -> io::Result<()> {
     let mut policy = [0u8; POLICY];
-    let first = console::load(&rt, "policy.bin", &mut policy);
+    let first = console::load(&rt, b"policy.bin", &mut policy);
     if !first.readable {
         return Ok(());
     }
     let mut routine = [0u8; ROUTINE];
-    let second = console::load(&rt, "routine.bin", &mut routine);
+    let second = console::load(&rt, b"routine.bin", &mut routine);
     if !second.readable {
         return Ok(());
     }
@@ -29,10 +29,10 @@ fn main(rt: HostRuntime) -> io::Result<()> {
     let verdict = loader::check(&mut workspace, &policy[..p], &routine[..r]);
     console::print_answer(
         &rt,
-        "verdict",
+        b"verdict",
         verdict.number,
         verdict.place,
-        "goals",
+        b"goals",
         verdict.goals as u64,
     )
 }

@@ -83,17 +83,17 @@ fn run_start(policy: &[u8], routine: &[u8], start: &[u8]) -> Outcome
 
 fn main(rt: HostRuntime) -> io::Result<()> {
     let mut policy = [0u8; POLICY];
-    let first = console::load(&rt, "policy.bin", &mut policy);
+    let first = console::load(&rt, b"policy.bin", &mut policy);
     if !first.readable {
         return Ok(());
     }
     let mut routine = [0u8; ROUTINE];
-    let second = console::load(&rt, "routine.bin", &mut routine);
+    let second = console::load(&rt, b"routine.bin", &mut routine);
     if !second.readable {
         return Ok(());
     }
     let mut start = [0u8; START];
-    let third = console::load(&rt, "start.bin", &mut start);
+    let third = console::load(&rt, b"start.bin", &mut start);
     if !third.readable {
         return Ok(());
     }
@@ -103,10 +103,10 @@ fn main(rt: HostRuntime) -> io::Result<()> {
     let outcome = run_start(&policy[..p], &routine[..r], &start[..s]);
     console::print_answer(
         &rt,
-        "run",
+        b"run",
         outcome.number,
         outcome.place,
-        "steps",
+        b"steps",
         outcome.steps as u64,
     )
 }

@@ -7,6 +7,6 @@ use Rattle.model.specs.declared.Region.{Region}
 abbrev pub grants : (right : ℕ) → Region → Bool
 grants right r = eqb r.rights right || eqb r.rights 3
 
--- `readableWord` at 1 and `writableWord` at 2, of every policy with that memory size and these regions
+-- `readable_word` at 1 and `writable_word` at 2, of every policy with that memory size and these regions
 abbrev pub permits : (right memory : ℕ) → List Region → (w : ℕ) → Bool
 permits right memory regions w = ltb w memory && some_region (grants right) regions w

@@ -21,7 +21,7 @@ unfoldable pub instruction_result : InstructionAnswer → Result Refusal Instruc
 instruction_result (Passed x) = value x
 instruction_result (Refused x) = stop x
 
--- checks 8 and 9 at one index: the step of `instructionsFrom`
+-- checks 8 and 9 at one index: the step of `instructions_from`
 unfoldable pub instruction_at : List ℕ → Header → (index : ℕ) → Result Refusal Instruction
 instruction_at bytes h index = do
   let p = 12 + 4 * index

@@ -35,7 +35,7 @@ pub enum Opened {
     Refused(Refusal),
 }
 
-// registerNodes: each register's node where it is its own variable.
+// register_nodes: each register's node where it is its own variable.
 pub const REGISTER_NODES: [u32; REGISTERS] = [0, 1, 2, 3, 4, 5, 6, 7, 8, 9, 10, 11, 12, 13, 14, 15];
 
 // What stands after the byte of a rule.

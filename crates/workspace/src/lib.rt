@@ -6,22 +6,22 @@ ghost use Rattle.std.specs.Prelude.{◌≡◌, length, replicate};
 
 use limits::{LEAST_WORKSPACE, MOST_ATOMS, REGISTERS};
 
-// pathRoom: there is room for paths of so many instructions.
+// path_room: there is room for paths of so many instructions.
 const PATH_ROOM: usize = 512;
 
-// mostVariables: the numbers of variables are below this.
+// most_variables: the numbers of variables are below this.
 pub const MOST_VARIABLES: usize = REGISTERS + PATH_ROOM;
 
-// constantWord: the constant of a linear form.
+// constant_word: the constant of a linear form.
 pub const CONSTANT: usize = MOST_VARIABLES + REGISTERS;
 
-// areaWords: the words of a linear form.
+// area_words: the words of a linear form.
 pub const AREA_WORDS: usize = CONSTANT + 1;
 
-// assumptionBase: where the assumptions begin.
+// assumption_base: where the assumptions begin.
 pub const ASSUMPTIONS: usize = AREA_WORDS + PATH_ROOM;
 
-// tableBase: where the term table begins.
+// table_base: where the term table begins.
 pub const TABLE: usize = ASSUMPTIONS + MOST_ATOMS + PATH_ROOM;
 
 // Where the words begin that say where a node may be found, and how many there are.
@@ -29,7 +29,7 @@ pub const HINT_COUNT: usize = 1024;
 
 pub const HINTS: usize = LEAST_WORKSPACE - HINT_COUNT;
 
-// hintBase: where the notes of nodes begin.
+// hint_base: where the notes of nodes begin.
 pub const NOTES: usize = HINTS - 1968;
 
 // Makes every word zero.
