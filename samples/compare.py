@@ -47,10 +47,11 @@ def cases():
                 yield f'DECISIONS.md:{number}', program, parts, line(program, found.groups()[2:])
 
 
+for program in NAMES:
+    if not os.path.exists(built(program)):
+        sys.exit(f'{built(program)} is not there: `rt run` in crates/{program} builds it')
 compared = different = 0
 for label, program, contents, expected in cases():
-    if not os.path.exists(built(program)):
-        continue
     if isinstance(contents, str):
         got = printed(program, contents)
     else:

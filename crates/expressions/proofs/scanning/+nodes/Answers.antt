@@ -7,7 +7,7 @@ pub returns-then-end-at : goal.returns-then-end-at
 returns-then-end-at t c = laws.at_end _ _ _ _ _ c.if-end-at.true
 
 pub returns-then-left-eq0 : goal.returns-then-left-eq0
-returns-then-left-eq0 t c = laws.no_node _ _ _ _ _ c.if-end-at.false c.if-left-eq0.true
+returns-then-left-eq0 t c = laws.no_node _ _ _ _ _ (omega arith) c.if-left-eq0.true
 
 pub returns-in_default-counted : goal.returns-in_default-counted
 returns-in_default-counted t c = laws.first_stops _ _ _ _ _ c.if-end-at.false c.if-left-eq0.false _ (laws.count_opens _ _ _ _ _ c.in-5.is _ c.count-counted.ensures) (opened c.in_default-counted.in_default-counted-own.keys2)
