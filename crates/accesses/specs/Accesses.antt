@@ -1,24 +1,46 @@
 -- What a load or a store on a path owes. Assumes nothing.
-use Rattle.std.specs.Prelude.{◌≡◌, List, ℕ}
+use Rattle.std.specs.Prelude.{◌≡◌, List, [], ◌∷◌, ℕ, IfOk}
+use Rattle.model.specs.Result.{Result}
 use Rattle.model.specs.Term.{Term}
-use Rattle.model.specs.Goals.{Move, onward, loading}
-use Rattle.model.specs.declared.Region.{Region}
+use Rattle.model.specs.Policy.{Policy}
+use Rattle.model.specs.Goals.{Claim, readable, writable, Move, goal_of, onward, loading}
+use Rattle.model.specs.declared.Right.{Right}
+use Rattle.model.specs.declared.Right.TheVariants.{Read, Write}
 use Rattle.nodes.specs.Table.{place}
 use Rattle.workspace.specs.Layout.{Same}
-use Rattle.paths.specs.Walking.{path_of}
+use Rattle.claims.specs.declared.Claim.{Claim as NodeClaim}
+use Rattle.claims.specs.declared.Claim.TheVariants.{Readable, Writable}
+use Rattle.paths.specs.Walking.{path_of, Kept}
 use Rattle.paths.specs.declared.Path.{Path}
+use Rattle.refusals.specs.declared.Refused.{Refused}
+use Rattle.setting.specs.declared.Setting.{Setting}
+use Rattle.setting.specs.Setting.{regions_in}
 use Rattle.goals.specs.declared.Progress.{Progress}
+use Rattle.goals.specs.Judging.{Reached, Judges}
 use Rattle.moves.specs.declared.Moved.{Moved}
-use Rattle.moves.specs.declared.MovedAnswer.TheVariants.{On}
-use Rattle.moves.specs.Moves.{Moves, Advanced}
+use Rattle.moves.specs.Moves.{MovesIn, Advanced}
+
+-- what an access by a right claims of its address, and of the address's node
+abbrev pub access_claim : Right → Term → Claim
+access_claim Read address = readable address
+access_claim Write address = writable address
+
+abbrev pub access_claim_at : Right → (node : ℕ) → NodeClaim
+access_claim_at Read node = Readable node
+access_claim_at Write node = Writable node
+
+-- one claim of the path is derived, and its words are kept
+pub record AddressJudged (ws us : List ℕ) (setting : Setting) (path : Path) (claim : Claim) (p : Progress) (r : Result Progress Refused) : Type 0 where
+  pub judges : (policy : Policy) → policy.regions ≡ regions_in setting → Judges setting.routine.bytes.now policy (goal_of (path_of ws path) claim ∷ []) p r
+  pub kept : Kept ws us path
+  pub reached : IfOk r (Reached setting.routine.bytes.now)
 
 -- an access goes by the policy's regions alone
-pub record Accesses (ws us bytes : List ℕ) (regions : List Region) (m : Move) (path : Path) (p : Progress) (r : Moved) : Type 0 where
-  pub moves : (credit : Term) → Moves ws us bytes (λ policy _. policy.regions ≡ regions) credit (λ _ _. m) path p r
+pub record Accesses (ws us : List ℕ) (setting : Setting) (m : Move) (path : Path) (p : Progress) (r : Result Moved Refused) : Type 0 where
+  pub moves : (credit : Term) → MovesIn ws us setting credit (λ _ _. m) path p r
 
 -- a register takes the next variable
-pub record Loads (ws us : List ℕ) (path : Path) (d : ℕ) (p : Progress) (r : Moved) : Type 0 where
-  pub goes_on : r.answer ≡ On p
-  pub means : path_of us r.path ≡ onward (loading (path_of ws path) d)
-  pub advanced : Advanced us path r.path
+pub record Loads (ws us : List ℕ) (path : Path) (d : ℕ) (after : Path) : Type 0 where
+  pub means : path_of us after ≡ onward (loading (path_of ws path) d)
+  pub advanced : Advanced us path after
   pub same : Same 0 (place path.top) ws us

@@ -1,113 +1,103 @@
 // What a load or a store does to a path of a block: the address is a term above the path's top, forgotten once its goal is derived.
 #![tactic(auto)]
 
-ghost use Rattle.std.specs.Prelude.{[], ◌∷◌, ◌<◌};
+ghost use Rattle.std.specs.Prelude.{◌≡◌, [], ◌∷◌, ◌<◌};
 ghost use Rattle.model.specs.Goals.{address_term, goal_of, readable, writable, goes, onward, loading};
 ghost use Rattle.model.specs.Expression.{register_count};
-ghost use Rattle.claims.specs.Regions.{regions_of, RegionWords};
 ghost use Rattle.goals.specs.Judging.{Reached};
 ghost use Rattle.paths.specs.Walking.{path_of};
 ghost use Rattle.moves.specs.Moves.{RoomFor};
-ghost use Rattle.accesses.specs.Accesses.{Accesses, Loads};
+ghost use Rattle.accesses.specs.Accesses.{access_claim_at, access_claim, AddressJudged, Accesses, Loads};
 
 use claims::Claim;
 use goals;
-use goals::{Judged, Progress};
-use moves::{Moved, MovedAnswer, assignments};
+use goals::Progress;
+use model::Right;
+use moves::{Moved, assignments};
+use nodes::Operation;
 use paths::Path;
+use refusals::Refused;
+use setting::Setting;
 
-// Register d is the next variable.
-fn loaded(ws: &mut [u32], path: Path, d: u8, progress: Progress) -> Moved
-    requires d_lt_register_count { d < register_count }
+// What an access by a right claims of the node of its address.
+fn access_claim(right: Right, address: usize) -> Claim
+    ensures { result ≡ access_claim_at right address }
+{
+    match right {
+        Right::Read => Claim::Readable(address),
+        Right::Write => Claim::Writable(address),
+    }
+}
+
+// Derives the goal that a right allows the access at a + i.
+fn address_goal(
+    setting: &Setting,
+    ws: &mut [u32],
+    path: Path,
+    right: Right,
+    a: u8,
+    i: u32,
+    progress: Progress,
+) -> Result<Progress, Refused>
+    requires register { a < register_count }
     requires room_for { RoomFor ws.old path 1 }
-    ensures { Loads ws.old ws.new path d progress result }
+    requires reached { Reached setting.now.routine.bytes.now progress }
+    ensures { AddressJudged ws.old ws.new setting.now path (access_claim right (address_term (path_of ws.old path) a i)) progress result }
+{
+    let top = path.top;
+    assignments::put_with(ws, path, Operation::Sum, a, i);
+    let claim = access_claim(right, top + 1);
+    goals::goal(setting, ws, path.raised(top + 2), claim, progress)
+}
+
+// The path whose register d is the next variable.
+fn loaded(ws: &mut [u32], path: Path, d: u8) -> Path
+    requires register { d < register_count }
+    requires room_for { RoomFor ws.old path 1 }
+    ensures { Loads ws.old ws.new path d result }
 {
     let top = path.top;
     terms::put_variable(ws, top, path.variables as u32);
-    let raised = paths::raised(path, top + 1);
-    let written = paths::written(paths::with_variable(raised), d, top);
-    Moved {
-        path: paths::stepped(written, path.counter + 1),
-        answer: MovedAnswer::On(progress),
-    }
+    let raised = path.raised(top + 1);
+    let written = raised.with_variable().written(d, top);
+    written.stepped(path.counter + 1)
 }
 
 // d := Mem[a + i]
 pub fn load(
-    bytes: &[u8],
-    regions: &[u32],
-    count: usize,
+    setting: &Setting,
     ws: &mut [u32],
     path: Path,
     d: u8,
     a: u8,
     i: u32,
     progress: Progress,
-) -> Moved
-    requires d_lt_register_count { (d < register_count) × (a < register_count) }
-    requires region_words { RegionWords regions.now count }
+) -> Result<Moved, Refused>
+    requires registers { (d < register_count) × (a < register_count) }
     requires room_for { RoomFor ws.old path 1 }
-    requires reached { Reached bytes.now progress }
-    ensures { Accesses ws.old ws.new bytes.now (regions_of regions.now count) (goes (goal_of (path_of ws.old path) (readable (address_term (path_of ws.old path) a i)) ∷ []) (onward (loading (path_of ws.old path) d))) path progress result }
+    requires reached { Reached setting.now.routine.bytes.now progress }
+    ensures { Accesses ws.old ws.new setting.now (goes (goal_of (path_of ws.old path) (readable (address_term (path_of ws.old path) a i)) ∷ []) (onward (loading (path_of ws.old path) d))) path progress result }
 {
-    let top = path.top;
-    assignments::put_with(ws, path, assignments::SUM, a, i);
-    let raised = paths::raised(path, top + 2);
-    let judged = goals::goal(
-        bytes,
-        regions,
-        count,
-        ws,
-        raised,
-        Claim::Readable(top + 1),
-        progress,
-    );
-    match judged {
-        Judged::Next(after) => loaded(ws, path, d, after),
-        Judged::Refused(refusal, derived) => Moved {
-            path,
-            answer: MovedAnswer::Refused(refusal, derived),
-        },
-    }
+    let right = Right::Read;
+    let after = address_goal(setting, ws, path, right, a, i, progress)?;
+    Ok(Moved::On(loaded(ws, path, d), after))
 }
 
 // Mem[a + i] := d
 pub fn store(
-    bytes: &[u8],
-    regions: &[u32],
-    count: usize,
+    setting: &Setting,
     ws: &mut [u32],
     path: Path,
     a: u8,
     i: u32,
     progress: Progress,
-) -> Moved
-    requires a_lt_register_count { a < register_count }
-    requires region_words { RegionWords regions.now count }
+) -> Result<Moved, Refused>
+    requires register { a < register_count }
     requires room_for { RoomFor ws.old path 1 }
-    requires reached { Reached bytes.now progress }
-    ensures { Accesses ws.old ws.new bytes.now (regions_of regions.now count) (goes (goal_of (path_of ws.old path) (writable (address_term (path_of ws.old path) a i)) ∷ []) (onward (path_of ws.old path))) path progress result }
+    requires reached { Reached setting.now.routine.bytes.now progress }
+    ensures { Accesses ws.old ws.new setting.now (goes (goal_of (path_of ws.old path) (writable (address_term (path_of ws.old path) a i)) ∷ []) (onward (path_of ws.old path))) path progress result }
 {
-    let top = path.top;
-    assignments::put_with(ws, path, assignments::SUM, a, i);
-    let raised = paths::raised(path, top + 2);
-    let judged = goals::goal(
-        bytes,
-        regions,
-        count,
-        ws,
-        raised,
-        Claim::Writable(top + 1),
-        progress,
-    );
-    match judged {
-        Judged::Next(after) => Moved {
-            path: paths::stepped(path, path.counter + 1),
-            answer: MovedAnswer::On(after),
-        },
-        Judged::Refused(refusal, derived) => Moved {
-            path,
-            answer: MovedAnswer::Refused(refusal, derived),
-        },
-    }
+    let right = Right::Write;
+    let after = address_goal(setting, ws, path, right, a, i, progress)?;
+    Ok(Moved::On(path.stepped(path.counter + 1), after))
 }

@@ -4,14 +4,15 @@ use mathlib.Core.Bool.{true, ◌&&◌, and-eq-true_iff}
 use mathlib.Core.List.{List}
 use native.Mathlib.Omega.{arith}
 use Prim.Native.Nat.{ℕ, ◌+◌, ◌≤◌, ◌<◌}
-use lib.ListN.{get_or, take}
+use lib.ListN.{get_or}
 use lib.Dec.{leb, ltb}
 use borrow.Author.Tests.{leb-true, ltb-true}
-use Rattle.model.specs.Result.{stop, value, check, ◌>>=◌}
+use Rattle.model.specs.Result.{Result, Err, Ok, check, ◌>>=◌}
 use Rattle.model.specs.Word.{le16}
 use Rattle.model.specs.Term.{Term}
 use Rattle.model.specs.Atom.{Atom, most_atoms}
-use Rattle.model.specs.Field.{missing, byte_at, half_at}
+use Rattle.model.specs.Field.{byte_at, half_at}
+use Rattle.model.specs.declared.ReadError.TheVariants.{Missing}
 use Rattle.model.specs.Expression.{register_count, expression_at, atoms_at}
 use Rattle.model.specs.Package.{proof_start}
 use Rattle.model.specs.Annotation.{Annotation, annotation_field, annotation_from, read_annotations}
@@ -19,21 +20,18 @@ use Rattle.model.specs.declared.Header.{Header}
 use Rattle.model.specs.declared.Refusal.{Refusal}
 use Rattle.model.specs.declared.Refusal.TheVariants.{BadAnnotation}
 use Rattle.model.proofs.Results.{bound, past_check, past_stop}
-use Rattle.annotations.specs.declared.reading.AnnotationsAnswer.{AnnotationsAnswer}
-use Rattle.annotations.specs.declared.reading.AnnotationsAnswer.TheVariants.{Passed, Refused}
-use Rattle.annotations.specs.Annotations.{annotation_at_place, Placed, annotations_at, Tabled, annotations_result, TabledIfPassed, AnnotationsMet}
+use Rattle.annotations.specs.declared.reading.Annotated.{Annotated}
+use Rattle.annotations.specs.Annotations.{annotation_at_place, Placed, annotations_at, with_terms}
 
 -- ---- the reader's answer
-module _ {bytes : List ℕ} {h : Header} {indexes places : List ℕ} {r : AnnotationsAnswer} (R : AnnotationsMet bytes h indexes places r) where
-  pub annotations_passed : r ≡ Passed → (read_annotations bytes h ≡ value (annotations_at bytes h (take h.annotations places))) × Tabled bytes h h.annotations indexes places
-  unfolding annotations_result TabledIfPassed
-  annotations_passed e =
-      let M = subst (λ (x : AnnotationsAnswer). AnnotationsMet bytes h indexes places x) e R in
-      (sym M.is, M.tabled)
+module _ (bytes : List ℕ) (h : Header) (r : Result (List Annotated) Refusal) (R : with_terms bytes h r ≡ read_annotations bytes h) where
+  pub annotations_passed : (list : List Annotated) → r ≡ Ok list → read_annotations bytes h ≡ Ok (annotations_at bytes h list)
+  unfolding with_terms
+  annotations_passed list e = sym (rw e at R)
 
-  pub annotations_refused : {x : Refusal} → r ≡ Refused x → read_annotations bytes h ≡ stop x
-  unfolding annotations_result
-  annotations_refused e = sym (rw e at R.is)
+  pub annotations_refused : (x : Refusal) → r ≡ Err x → read_annotations bytes h ≡ Err x
+  unfolding with_terms
+  annotations_refused x e = sym (rw e at R)
 
 -- ---- where the parts of an annotation stand
 pub record Laid (bytes : List ℕ) (h : Header) (p : ℕ) (a : Annotation) (next : ℕ) : Type 0 where
@@ -42,20 +40,20 @@ pub record Laid (bytes : List ℕ) (h : Header) (p : ℕ) (a : Annotation) (next
   pub below : a.index < h.instructions
   pub few : get_or bytes (p + 2) 0 ≤ most_atoms
   pub after : ℕ
-  pub credit : expression_at bytes (proof_start h) register_count (p + 3) ≡ value (a.credit, after)
-  pub atoms : atoms_at bytes (proof_start h) register_count (get_or bytes (p + 2) 0) after ≡ value (a.atoms, next)
+  pub credit : expression_at bytes (proof_start h) register_count (p + 3) ≡ Ok (a.credit, after)
+  pub atoms : atoms_at bytes (proof_start h) register_count (get_or bytes (p + 2) 0) after ≡ Ok (a.atoms, next)
 
-there_half : (bytes : List ℕ) (end p x : ℕ) → half_at bytes end p ≡ value x → (p + 2 ≤ end) × (x ≡ le16 bytes p)
+there_half : (bytes : List ℕ) (end p x : ℕ) → half_at bytes end p ≡ Ok x → (p + 2 ≤ end) × (x ≡ le16 bytes p)
 unfolding half_at ◌>>=◌
-there_half bytes end p x e = let b = bound (check (leb (p + 2) end) missing) _ e in (leb-true (p + 2) end (past_check _ _ b.1), (cc))
+there_half bytes end p x e = let b = bound (check (leb (p + 2) end) Missing) _ e in (leb-true (p + 2) end (past_check _ _ b.1), (cc))
 
-there_byte : (bytes : List ℕ) (end p x : ℕ) → byte_at bytes end p ≡ value x → (p + 1 ≤ end) × (x ≡ get_or bytes p 0)
+there_byte : (bytes : List ℕ) (end p x : ℕ) → byte_at bytes end p ≡ Ok x → (p + 1 ≤ end) × (x ≡ get_or bytes p 0)
 unfolding byte_at ◌>>=◌
-there_byte bytes end p x e = let b = bound (check (leb (p + 1) end) missing) _ e in (leb-true (p + 1) end (past_check _ _ b.1), (cc))
+there_byte bytes end p x e = let b = bound (check (leb (p + 1) end) Missing) _ e in (leb-true (p + 1) end (past_check _ _ b.1), (cc))
 
 module _ (bytes : List ℕ) (h : Header) where
-  from_parts : (lowest p index count : ℕ) (credit : Term × ℕ) (atoms : List Atom × ℕ) (x : Annotation × ℕ) → half_at bytes (proof_start h) p ≡ value index → (leb lowest index && ltb index h.instructions) ≡ true → byte_at bytes (proof_start h) (p + 2) ≡ value count → leb count most_atoms ≡ true
-      → expression_at bytes (proof_start h) register_count (p + 3) ≡ value credit → atoms_at bytes (proof_start h) register_count count credit.1 ≡ value atoms → ◌≡◌ {A = Annotation × ℕ} (record { index = index; credit = credit.0; atoms = atoms.0 }, atoms.1) x → Laid bytes h p x.0 x.1
+  from_parts : (lowest p index count : ℕ) (credit : Term × ℕ) (atoms : List Atom × ℕ) (x : Annotation × ℕ) → half_at bytes (proof_start h) p ≡ Ok index → (leb lowest index && ltb index h.instructions) ≡ true → byte_at bytes (proof_start h) (p + 2) ≡ Ok count → leb count most_atoms ≡ true
+      → expression_at bytes (proof_start h) register_count (p + 3) ≡ Ok credit → atoms_at bytes (proof_start h) register_count count credit.1 ≡ Ok atoms → ◌≡◌ {A = Annotation × ℕ} (record { index = index; credit = credit.0; atoms = atoms.0 }, atoms.1) x → Laid bytes h p x.0 x.1
   from_parts lowest p index count credit atoms x ei ti ec tc et ea made =
       let i = there_half bytes (proof_start h) p index ei in
       let c = there_byte bytes (proof_start h) (p + 2) count ec in
@@ -70,7 +68,7 @@ module _ (bytes : List ℕ) (h : Header) where
         atoms = rw (← c.1) ea;
       })
 
-  pub laid : (lowest p : ℕ) (a : Annotation) (next : ℕ) → annotation_from bytes h lowest p ≡ value (a, next) → Laid bytes h p a next
+  pub laid : (lowest p : ℕ) (a : Annotation) (next : ℕ) → annotation_from bytes h lowest p ≡ Ok (a, next) → Laid bytes h p a next
   unfolding annotation_from
   laid lowest p a next e =
       let end = proof_start h in

@@ -1,107 +1,117 @@
 // The reading of annotations: checks 10 and 11.
-ghost use Rattle.std.specs.Prelude.{◌≡◌, ◌^◌, ◌≤◌, ◌<◌, length};
+ghost use Rattle.std.specs.Prelude.{◌≡◌, ◌≤◌, ◌<◌, IfOk, List, length, take};
 ghost use Rattle.model.specs.Package.{most_annotations, proof_start};
-ghost use Rattle.expressions.specs.Reading.{Reads};
-ghost use Rattle.header.specs.Headers.{Fits};
-ghost use Rattle.annotations.specs.Annotations.{body_at, AnnotationRead, AnnotationsMet};
+ghost use Rattle.model.specs.Annotation.{annotation_from, read_annotations};
+ghost use Rattle.expressions.specs.Reading.{ends};
+ghost use Rattle.annotations.specs.declared.reading.Annotated.{Annotated};
+ghost use Rattle.annotations.specs.Bodies.{body_at};
+ghost use Rattle.annotations.specs.Annotations.{read_of, Inside, with_terms, Tabled};
 
-use expressions::Reading;
-use limits::{MOST_ATOMS, REGISTERS};
-use model::{Header, Refusal};
+use header::package::Package;
+use limits::{MOST_ANNOTATIONS, MOST_ATOMS, REGISTERS};
+use model::{ReadError, Refusal};
+use std::marker::Model;
 
-// A position or an index as a word.
-fn narrow(x: usize) -> u32
-    requires { x < 2 ^ 32 }
-    ensures { result ≡ x }
-{
-    x as u32
-}
-
-// What stands after an annotation's atom count: its credit and so many atoms.
-fn body(bytes: &[u8], end: usize, count: usize, at: usize) -> Reading
+// Where what stands after an annotation's atom count ends: its credit and so many atoms.
+fn body(bytes: &[u8], end: usize, count: usize, at: usize) -> Result<usize, ReadError>
     requires { end ≤ length bytes.now }
-    ensures { Reads end (body_at bytes.now end count at) result }
+    ensures ends { result ≡ ends (body_at bytes.now end count at) }
+    ensures inside { IfOk result (λ next. next ≤ end) }
 {
-    let credit = expressions::expression(bytes, end, REGISTERS, at);
-    let Reading::Next(next) = credit else {
-        return credit;
-    };
+    let next = expressions::expression(bytes, end, REGISTERS, at)?;
     expressions::atoms(bytes, end, REGISTERS, count, next)
 }
 
+// The index of an annotation, and where the next begins.
 #[derive(Clone, Copy)]
-pub enum AnnotationAnswer {
-    Next { index: usize, next: usize },
-    Refused(Refusal),
+pub struct AnnotationRead {
+    pub index: usize,
+    pub next: usize,
 }
 
-// The index of the annotation at a position and where the next begins, or what check 10 or 11 refuses there.
-pub fn annotation(bytes: &[u8], header: Header, lowest: usize, at: usize) -> AnnotationAnswer
-    requires fits { Fits bytes.now header }
-    requires at_bound { at ≤ proof_start header }
-    ensures { AnnotationRead bytes.now header lowest at result }
+// The annotation at a position, or what check 10 or 11 refuses there.
+pub fn annotation(routine: &Package, lowest: usize, at: usize) -> Result<AnnotationRead, Refusal>
+    requires { at ≤ proof_start routine.now.header }
+    ensures is { result ≡ read_of (annotation_from routine.now.bytes.now routine.now.header lowest at) }
+    ensures inside { IfOk result (Inside routine.now.header) }
 {
-    let end = header::proof_start(header);
+    let bytes = routine.bytes;
+    let end = routine.proof_start();
     if end - at < 2 {
-        return AnnotationAnswer::Refused(Refusal::AnnotationBytes(end));
+        return Err(Refusal::AnnotationBytes(end));
     }
     let index = fields::half(bytes, at);
-    if !((lowest <= index) & (index < header.instructions)) {
-        return AnnotationAnswer::Refused(Refusal::BadAnnotation(at));
+    if !((lowest <= index) & (index < routine.header.instructions)) {
+        return Err(Refusal::BadAnnotation(at));
     }
     if end - at < 3 {
-        return AnnotationAnswer::Refused(Refusal::AnnotationBytes(end));
+        return Err(Refusal::AnnotationBytes(end));
     }
-    let count = fields::wide_byte(bytes[at + 2]);
+    let count = usize::from(bytes[at + 2]);
     if MOST_ATOMS < count {
-        return AnnotationAnswer::Refused(Refusal::BadAnnotation(at + 2));
+        return Err(Refusal::BadAnnotation(at + 2));
     }
-    let rest = body(bytes, end, count, at + 3);
-    match rest {
-        Reading::Next(next) => AnnotationAnswer::Next { index, next },
-        Reading::Missing => AnnotationAnswer::Refused(Refusal::AnnotationBytes(end)),
-        Reading::Fault(place) => AnnotationAnswer::Refused(Refusal::AnnotationBytes(place)),
+    match body(bytes, end, count, at + 3) {
+        Ok(next) => Ok(AnnotationRead { index, next }),
+        Err(ReadError::Missing) => Err(Refusal::AnnotationBytes(end)),
+        Err(ReadError::Fault(place)) => Err(Refusal::AnnotationBytes(place)),
     }
 }
 
+// An instruction that has an annotation, and the annotation's place in the bytes.
 #[derive(Clone, Copy)]
-pub enum AnnotationsAnswer {
-    Passed,
-    Refused(Refusal),
+pub struct Annotated {
+    pub index: usize,
+    pub at: usize,
 }
 
-// The annotations in turn, or what check 10 or 11 refuses: their indexes and places go into the lent tables.
-pub fn read_annotations(
-    bytes: &[u8],
-    header: Header,
-    indexes: &mut [u32],
-    places: &mut [u32],
-) -> AnnotationsAnswer
-    requires fits { Fits bytes.now header }
-    requires indexes_len { (length indexes.old ≡ most_annotations) × (length places.old ≡ most_annotations) }
-    ensures { AnnotationsMet bytes.now header indexes.new places.new result }
+// The annotations of a package that passes checks 10 and 11: the first `count` of `list`.
+#[derive(Drop)]
+pub struct Annotations {
+    count: usize,
+    list: [Annotated; MOST_ANNOTATIONS],
+}
+
+impl Model for Annotations {
+    ghost Value = { List Annotated };
+
+    ghost view = { λ annotations. take annotations.count annotations.list };
+
+    ghost invariant = { λ annotations. annotations.count ≤ most_annotations };
+}
+
+impl Annotations {
+    // The annotations, in the order of their indexes.
+    pub fn as_slice(&self) -> &[Annotated]
+        ensures same { result.now ≡ self.now }
+        ensures few { length self.now ≤ most_annotations }
+    {
+        &self.list[..self.count]
+    }
+}
+
+// The annotations in turn, or what check 10 or 11 refuses.
+pub fn read_annotations(routine: &Package) -> Result<Annotations, Refusal>
+    ensures is { with_terms routine.now.bytes.now routine.now.header result ≡ read_annotations routine.now.bytes.now routine.now.header }
+    ensures tabled { IfOk result (Tabled routine.now.bytes.now routine.now.header) }
 {
-    let end = header::proof_start(header);
+    let mut list = [Annotated { index: 0, at: 0 }; MOST_ANNOTATIONS];
     let mut lowest = 0;
-    let mut at = 12 + 8 * header.instructions;
-    let mut count = 0;
-    while count < header.annotations {
-        let answer = annotation(bytes, header, lowest, at);
-        match answer {
-            AnnotationAnswer::Next { index, next } => {
-                indexes[count] = narrow(index);
-                places[count] = narrow(at);
-                lowest = index + 1;
-                at = next;
-                count += 1;
-            }
-            AnnotationAnswer::Refused(refusal) => {
-                return AnnotationsAnswer::Refused(refusal);
-            }
-        }
+    let mut at = routine.annotation_start();
+    for count in 0..routine.header.annotations {
+        let read = annotation(routine, lowest, at)?;
+        list[count] = Annotated {
+            index: read.index,
+            at,
+        };
+        lowest = read.index + 1;
+        at = read.next;
     }
-    if at != end {
-        return AnnotationsAnswer::Refused(Refusal::AnnotationBytes(at));
+    if at != routine.proof_start() {
+        return Err(Refusal::AnnotationBytes(at));
     }
-    AnnotationsAnswer::Passed
+    Ok(Annotations {
+        count: routine.header.annotations,
+        list,
+    })
 }

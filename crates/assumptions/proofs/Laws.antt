@@ -10,6 +10,8 @@ use native.Mathlib.Omega.{arith}
 use lib.ListN.{length, set, get_elem?, length-append}
 use lib.Seq.{get_or-set_same}
 use Rattle.model.specs.Atom.{Atom, tag_of}
+use Rattle.model.specs.Result.{found, misfit, Ok}
+use Rattle.model.specs.Expression.{comparisons}
 use Rattle.model.specs.declared.Comparison.{Comparison}
 use Rattle.model.specs.Verdict.{least_workspace}
 use Rattle.workspace.specs.Layout.{assumption_base, most_assumptions, table_base, most_table_nodes, Same}
@@ -17,8 +19,7 @@ use Rattle.model.specs.declared.Comparison.TheVariants.{Equal, Unequal, Less, At
 use Rattle.nodes.specs.Table.{low, high, place, Formed}
 use Rattle.workspace.proofs.Frames.{same_within, set_before, set_after}
 use Rattle.nodes.proofs.Table.{term_same, formed_same}
-use Rattle.fields.proofs.Tags.{kind_tag}
-use Rattle.assumptions.specs.Area.{slot, packed, unpacked, entry_of, atom_in, listed, Listed, Pushed}
+use Rattle.assumptions.specs.Area.{slot, kind_of, packed, unpacked, entry_of, atom_in, listed, Listed, Pushed}
 
 -- ---- words that keep the area: the entries are the same
 module _ {ws us : List ℕ} where
@@ -59,6 +60,23 @@ tag_bound Equal = omega arith
 tag_bound Unequal = omega arith
 tag_bound Less = omega arith
 tag_bound AtMost = omega arith
+
+-- a tag says its comparison
+kind_tag : (kind : Comparison) → kind_of (tag_of kind) ≡ kind
+unfolding tag_of
+kind_tag Equal = refl
+kind_tag Unequal = refl
+kind_tag Less = refl
+kind_tag AtMost = refl
+
+-- two bits always say one
+pub two_bits : (bits : ℕ) → bits < 4 → found (get_elem? comparisons bits) misfit ≡ Ok (kind_of bits)
+unfolding found
+two_bits zero h = refl
+two_bits (suc zero) h = refl
+two_bits (suc (suc zero)) h = refl
+two_bits (suc (suc (suc zero))) h = refl
+two_bits (suc (suc (suc (suc t)))) h = absurd (omega arith)
 
 unpacked_is : (kind : Comparison) (x y : ℕ) → x < most_table_nodes → unpacked (packed kind x y) ≡ record { kind = kind; left = x; right = y }
 unpacked_is kind x y h =

@@ -6,7 +6,6 @@ ghost use Rattle.model.specs.Verdict.{least_workspace};
 ghost use Rattle.workspace.specs.Layout.{most_assumptions, most_table_nodes};
 ghost use Rattle.assumptions.specs.Area.{entry_of, atom_in, Listed, Pushed};
 
-use fields::kinds;
 use model::Comparison;
 use workspace::ASSUMPTIONS;
 
@@ -19,26 +18,28 @@ pub struct Assumption {
 }
 
 // Puts one more assumption after the first count.
-pub fn push(ws: &mut [u32], count: usize, top: usize, kind: Comparison, left: usize, right: usize)
-    requires count_lt_most_assumptions { (count < most_assumptions) × (top ≤ most_table_nodes) × (least_workspace ≤ length ws.old) }
+pub fn push(ws: &mut [u32], count: usize, top: usize, assumption: Assumption)
+    requires room { (count < most_assumptions) × (top ≤ most_table_nodes) × (least_workspace ≤ length ws.old) }
     requires listed { Listed ws.old count top }
-    requires left_lt_top { (left < top) × (right < top) }
-    ensures { Pushed ws.old ws.new count top (atom_in ws.old (record { kind = kind; left = left; right = right })) }
+    requires sides_below { (assumption.left < top) × (assumption.right < top) }
+    ensures { Pushed ws.old ws.new count top (atom_in ws.old assumption) }
 {
-    let tag = fields::wide(kinds::tag(kind));
+    let Assumption { kind, left, right } = assumption;
+    let tag = u32::from(kind) as usize;
     let word = tag + 4 * left + 65536 * right;
     ws[ASSUMPTIONS + count] = word as u32;
 }
 
-// Assumption k.
+// Assumption k. Two bits always say a comparison.
 pub fn get(ws: &[u32], k: usize) -> Assumption
     requires { (k < most_assumptions) × (least_workspace ≤ length ws.now) }
     ensures { result ≡ entry_of ws.now k }
 {
     let word = ws[ASSUMPTIONS + k];
+    let kind = Comparison::try_from((word % 4) as u8).unwrap();
     Assumption {
-        kind: kinds::comparison(word % 4),
-        left: fields::wide(word % 65536 / 4),
-        right: fields::wide(word / 65536),
+        kind,
+        left: (word % 65536 / 4) as usize,
+        right: (word / 65536) as usize,
     }
 }

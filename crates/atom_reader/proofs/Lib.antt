@@ -1,3 +1,2 @@
 pub mod Reading
-pub mod Atoms
 pub mod Substitution

@@ -3,10 +3,12 @@ use mathlib.Core.Path.{◌≡◌, refl, sym, ap, ap₂, ◌∙◌, fun_ext}
 use mathlib.Core.List.{List}
 use Prim.Native.Nat.{ℕ, ◌+◌, ◌<◌}
 use lib.ListN.{get_or, get_elem?}
-use Rattle.model.specs.Result.{Result, stop, value, found}
+use Rattle.model.specs.Result.{Result, Err, Ok, found}
 use Rattle.model.specs.Term.{Term, constant}
 use Rattle.model.specs.Atom.{Atom, substitute_atom}
-use Rattle.model.specs.Field.{ReadError, fault, byte_at}
+use Rattle.model.specs.Field.{byte_at}
+use Rattle.model.specs.declared.ReadError.{ReadError}
+use Rattle.model.specs.declared.ReadError.TheVariants.{Fault}
 use Rattle.model.specs.Expression.{comparisons, expression_at, atom_at, register_count}
 use Rattle.model.specs.Goals.{register_variables}
 use Rattle.leaf_reader.specs.Leaves.{mapped, variable_term}
@@ -21,7 +23,7 @@ module _ (bytes : List ℕ) (end limit : ℕ) (σ τ : ℕ → Term) (agree : (v
   pub atom_agree : (p : ℕ) → atom_over σ (atom_at bytes end limit p) ≡ atom_over τ (atom_at bytes end limit p)
   unfolding atom_at
   atom_agree p =
-      bind_agree _ _ (byte_at bytes end p) _ (λ tag. bind_agree _ _ (found (get_elem? comparisons tag) (fault p)) _ (λ kind.
+      bind_agree _ _ (byte_at bytes end p) _ (λ tag. bind_agree _ _ (found (get_elem? comparisons tag) (Fault p)) _ (λ kind.
       sides_over σ kind (expression_at bytes end limit (p + 1)) (λ q. expression_at bytes end limit q)
       ∙ ap₂ (λ x y. two_sides kind x y) (expression_agree bytes end limit σ τ agree (p + 1)) (fun_ext (λ q. expression_agree bytes end limit σ τ agree q))
       ∙ sym (sides_over τ kind (expression_at bytes end limit (p + 1)) (λ q. expression_at bytes end limit q))))
@@ -36,7 +38,7 @@ module _ {ws registers : List ℕ} {terms : List Term} (h : RegisterTerms ws reg
 
 -- the registers are the variables themselves: what is read is unchanged
 module _ {ws registers : List ℕ} (h : RegisterTerms ws registers register_variables) where
-  pub atom_self : (x : Result ReadError (Atom × ℕ)) → atom_over (variable_term ws registers) x ≡ x
+  pub atom_self : (x : Result (Atom × ℕ) ReadError) → atom_over (variable_term ws registers) x ≡ x
   unfolding mapped
-  atom_self (stop e) = refl
-  atom_self (value z) = rw (variables_self h) (ap₂ (λ s t. value (record { kind = z.0.kind; left = s; right = t }, z.1)) (over_variable z.0.left) (over_variable z.0.right))
+  atom_self (Err e) = refl
+  atom_self (Ok z) = rw (variables_self h) (ap₂ (λ s t. Ok (record { kind = z.0.kind; left = s; right = t }, z.1)) (over_variable z.0.left) (over_variable z.0.right))

@@ -1,6 +1,6 @@
 -- What the functions that start a block and assume atoms owe. Assumes nothing.
 use Rattle.std.specs.Prelude.{◌≡◌, List, [], map, ◌++◌, ℕ, ◌+◌, ◌*◌, ◌<◌, ◌≤◌, length, get_or}
-use Rattle.model.specs.Result.{value}
+use Rattle.model.specs.Result.{Ok}
 use Rattle.model.specs.Term.{constant, variable}
 use Rattle.model.specs.Atom.{Atom, most_atoms}
 use Rattle.model.specs.Expression.{register_count, most_nodes, expression_at, atoms_at}
@@ -13,11 +13,15 @@ use Rattle.atom_reader.specs.AtomReader.{atom_nodes}
 use Rattle.assumptions.specs.Area.{slot}
 use Rattle.forms.specs.Area.{Cleared}
 use Rattle.rule_reader.specs.Opening.{register_nodes}
+use Rattle.model.specs.Package.{proof_start}
+use Rattle.policy.specs.declared.Condition.{Condition}
+use Rattle.annotations.specs.declared.reading.Annotated.{Annotated}
+use Rattle.setting.specs.declared.Setting.{Setting}
 use Rattle.paths.specs.declared.Path.{Path}
 use Rattle.blocks.specs.declared.Block.{Block}
 use Rattle.paths.specs.Walking.{path_of, PathIn, NodeIn}
 
--- ---- an from_assumption more
+-- ---- an assumption more
 abbrev pub assumed_path : Path → Path
 assumed_path p = record { counter = p.counter; steps = p.steps; variables = p.variables; assumptions = p.assumptions + 1; top = p.top; registers = p.registers }
 
@@ -62,14 +66,14 @@ pub record Fresh (ws : List ℕ) (path : Path) (number : ℕ) : Type 0 where
 abbrev pub assuming_all : ModelPath → List Atom → ModelPath
 assuming_all s atoms = record { counter = s.counter; steps = s.steps; registers = s.registers; variables = s.variables; assumptions = s.assumptions ++ atoms }
 
--- r is the path with the atoms assumed besides that stand in `source`, so many from a position on
-pub record AllAssumed (ws us : List ℕ) (path : Path) (source : List ℕ) (end at number : ℕ) (r : Path) : Type 0 where
+-- r is the path with the atoms of a condition assumed besides, which stand in these bytes
+pub record AllAssumed (ws us : List ℕ) (path : Path) (bytes : List ℕ) (end : ℕ) (condition : Condition) (r : Path) : Type 0 where
   pub inside : PathIn us r
-  pub is : (atoms : List Atom) (next : ℕ) → atoms_at source end register_count number at ≡ value (atoms, next) → path_of us r ≡ assuming_all (path_of ws path) atoms
+  pub is : (atoms : List Atom) (next : ℕ) → atoms_at bytes end register_count condition.atoms condition.at ≡ Ok (atoms, next) → path_of us r ≡ assuming_all (path_of ws path) atoms
   pub table : Same table_base (place path.top) ws us
   pub grows : path.top ≤ r.top
-  pub few : r.top ≤ path.top + atom_nodes * number
-  pub more : r.assumptions ≤ path.assumptions + number
+  pub few : r.top ≤ path.top + atom_nodes * condition.atoms
+  pub more : r.assumptions ≤ path.assumptions + condition.atoms
   pub counter : r.counter ≡ path.counter
   pub steps : r.steps ≡ path.steps
   pub variables : r.variables ≡ path.variables
@@ -89,14 +93,16 @@ pub record BlockIn (us : List ℕ) (index : ℕ) (r : Block) : Type 0 where
   pub few : r.path.top ≤ start_room
   pub more : r.path.assumptions ≤ most_atoms
 
--- the block at instruction 0: the precondition stands in the policy, so many atoms from a position on
-pub record EntryBlock (us policy_bytes : List ℕ) (at number limit : ℕ) (r : Block) : Type 0 where
+-- the block at instruction 0
+pub record EntryBlock (us : List ℕ) (setting : Setting) (r : Block) : Type 0 where
   pub block : BlockIn us 0 r
-  pub credit : term_at us r.credit ≡ constant limit
-  pub is : (atoms : List Atom) (next : ℕ) → atoms_at policy_bytes (length policy_bytes) register_count number at ≡ value (atoms, next) → path_of us r.path ≡ block_start 0 atoms
+  pub credit : term_at us r.credit ≡ constant setting.policy.limit
+  pub is : (atoms : List Atom) (next : ℕ) → atoms_at setting.conditions.now (length setting.conditions.now) register_count setting.policy.precondition.atoms setting.policy.precondition.at ≡ Ok (atoms, next)
+      → path_of us r.path ≡ block_start 0 atoms
 
--- the block at the annotation a that stands at a position
-pub record AnnotationBlock (us bytes : List ℕ) (end at index : ℕ) (r : Block) : Type 0 where
-  pub block : BlockIn us index r
-  pub is : (a : Annotation) (q next : ℕ) → expression_at bytes end register_count (at + 3) ≡ value (a.credit, q) → atoms_at bytes end register_count (get_or bytes (at + 2) 0) q ≡ value (a.atoms, next)
-      → (term_at us r.credit ≡ a.credit) × (path_of us r.path ≡ block_start index a.atoms)
+-- the block at the annotation a that stands at a place
+pub record AnnotationBlock (us : List ℕ) (setting : Setting) (annotated : Annotated) (r : Block) : Type 0 where
+  pub block : BlockIn us annotated.index r
+  pub is : (a : Annotation) (q next : ℕ) → expression_at setting.routine.bytes.now (proof_start setting.routine.header) register_count (annotated.at + 3) ≡ Ok (a.credit, q)
+      → atoms_at setting.routine.bytes.now (proof_start setting.routine.header) register_count (get_or setting.routine.bytes.now (annotated.at + 2) 0) q ≡ Ok (a.atoms, next)
+      → (term_at us r.credit ≡ a.credit) × (path_of us r.path ≡ block_start annotated.index a.atoms)

@@ -6,16 +6,19 @@ ghost use Rattle.model.specs.Verdict.{least_workspace};
 ghost use Rattle.model.specs.Expression.{register_count};
 ghost use Rattle.model.specs.Atom.{most_atoms};
 ghost use Rattle.workspace.specs.Layout.{most_assumptions, most_table_nodes};
-ghost use Rattle.nodes.specs.Table.{term_at};
+ghost use Rattle.model.specs.Package.{proof_start};
+ghost use Rattle.assumptions.specs.Area.{atom_in};
 ghost use Rattle.paths.specs.Walking.{PathIn};
 ghost use Rattle.blocks.specs.Starting.{Assumed, Workspace, Variables, Started, Fresh, AllAssumed, EntryBlock, AnnotationBlock};
 
-use atom_reader::AtomParse;
-use leaf_reader::Parse;
+use annotations::reading::Annotated;
+use assumptions::Assumption;
+use leaf_reader::Source;
 use limits::REGISTERS;
-use model::Comparison;
 use paths::Path;
+use policy::Condition;
 use rule_reader::REGISTER_NODES;
+use setting::Setting;
 
 // Where a block starts, and the node of its credit.
 #[derive(Clone, Copy)]
@@ -25,15 +28,17 @@ pub struct Block {
 }
 
 // The path with a comparison of two nodes assumed besides.
-pub fn assuming(ws: &mut [u32], mut path: Path, kind: Comparison, left: usize, right: usize) -> Path
+pub fn assuming(ws: &mut [u32], path: Path, assumption: Assumption) -> Path
     requires path_in { PathIn ws.old path }
-    requires assumptions_lt_most_assumptions { (path.assumptions < most_assumptions) × (path.top ≤ most_table_nodes) × (least_workspace ≤ length ws.old) }
-    requires left_lt_top { (left < path.top) × (right < path.top) }
-    ensures { Assumed ws.old ws.new path (record { kind = kind; left = term_at ws.old left; right = term_at ws.old right }) result }
+    requires room { (path.assumptions < most_assumptions) × (path.top ≤ most_table_nodes) × (least_workspace ≤ length ws.old) }
+    requires sides_below { (assumption.left < path.top) × (assumption.right < path.top) }
+    ensures { Assumed ws.old ws.new path (atom_in ws.old assumption) result }
 {
-    assumptions::push(ws, path.assumptions, path.top, kind, left, right);
-    path.assumptions += 1;
-    path
+    assumptions::push(ws, path.assumptions, path.top, assumption);
+    Path {
+        assumptions: path.assumptions + 1,
+        ..path
+    }
 }
 
 // Puts variables 0 to 15 at nodes 0 to 15.
@@ -41,10 +46,8 @@ fn variables(ws: &mut [u32])
     requires { least_workspace ≤ length ws.old }
     ensures { Variables ws.old ws.new register_count }
 {
-    let mut v = 0;
-    while v < REGISTERS {
+    for v in 0..REGISTERS {
         terms::put_variable(ws, v, v as u32);
-        v += 1;
     }
 }
 
@@ -65,47 +68,53 @@ fn start(ws: &mut [u32], index: usize) -> Path
     }
 }
 
-// The path with `number` atoms assumed besides, which stand at `at` in `source`.
-fn assume(source: &[u8], end: usize, at: usize, number: usize, ws: &mut [u32], path: Path) -> Path
-    requires end_in_bounds { end ≤ length source.now }
-    requires fresh { Fresh ws.old path number }
-    ensures { AllAssumed ws.old ws.new path source.now end at number result }
+// The path with a condition's atoms assumed besides, which stand in `bytes`.
+fn assume(bytes: &[u8], end: usize, condition: Condition, ws: &mut [u32], path: Path) -> Path
+    requires end_in_bounds { end ≤ length bytes.now }
+    requires fresh { Fresh ws.old path condition.atoms }
+    ensures { AllAssumed ws.old ws.new path bytes.now end condition result }
 {
-    if number == 0 {
+    if condition.atoms == 0 {
         return path;
     }
     let registers = path.registers;
-    let read = atom_reader::atom(source, ws, end, REGISTERS, registers, at, path.top);
-    let AtomParse::Atom {
-        kind,
-        left,
-        right,
-        next,
-        top,
-    } = read
-    else {
+    let source = Source {
+        bytes,
+        end,
+        limit: REGISTERS,
+        registers,
+    };
+    let Ok(read) = atom_reader::atom(&source, ws, condition.at, path.top) else {
         return path;
     };
-    let more = assuming(ws, paths::raised(path, top), kind, left, right);
-    assume(source, end, next, number - 1, ws, more)
+    let assumption = Assumption {
+        kind: read.kind,
+        left: read.left,
+        right: read.right,
+    };
+    let more = assuming(ws, path.raised(read.top), assumption);
+    let rest = Condition {
+        at: read.next,
+        atoms: condition.atoms - 1,
+    };
+    assume(bytes, end, rest, ws, more)
 }
 
-// The block at instruction 0: the `number` atoms of the precondition, which stand at `at` in the policy, are assumed, and the credit is the
-// step limit.
-pub fn entry_block(policy: &[u8], at: usize, number: usize, limit: u32, ws: &mut [u32]) -> Block
-    requires workspace { Workspace ws.old }
-    requires number_le_most_atoms { number ≤ most_atoms }
-    ensures { EntryBlock ws.new policy.now at number limit result }
+// The block at instruction 0: the precondition is assumed, and the credit is the step limit.
+pub fn entry_block(setting: &Setting, ws: &mut [u32]) -> Block
+    requires { Workspace ws.old }
+    ensures { EntryBlock ws.new setting.now result }
 {
     let first = start(ws, 0);
-    terms::put_constant(ws, REGISTERS, limit);
+    terms::put_constant(ws, REGISTERS, setting.policy.limit);
+    let conditions = setting.conditions;
+    let precondition = setting.policy.precondition;
     let path = assume(
-        policy,
-        policy.len(),
-        at,
-        number,
+        conditions,
+        conditions.len(),
+        precondition,
         ws,
-        paths::raised(first, REGISTERS + 1),
+        first.raised(REGISTERS + 1),
     );
     Block {
         path,
@@ -113,32 +122,37 @@ pub fn entry_block(policy: &[u8], at: usize, number: usize, limit: u32, ws: &mut
     }
 }
 
-// The block at the annotation that stands at `at`, whose index is given: its atoms are assumed, and the credit is its own. Check 11 has read
-// the annotation before, so that it can be read here.
-pub fn annotation_block(bytes: &[u8], end: usize, at: usize, index: usize, ws: &mut [u32]) -> Block
+// The block at an annotation: its atoms are assumed, and the credit is its own. Check 11 has read the annotation before, so that it can be
+// read here.
+pub fn annotation_block(setting: &Setting, annotated: Annotated, ws: &mut [u32]) -> Block
     requires workspace { Workspace ws.old }
-    requires end_in_bounds { (end ≤ length bytes.now) × (at + 2 < end) × (get_or bytes.now (at + 2) 0 ≤ most_atoms) }
-    ensures { AnnotationBlock ws.new bytes.now end at index result }
+    requires at_in_bounds { annotated.at + 2 < proof_start setting.now.routine.header }
+    requires few_atoms { get_or setting.now.routine.bytes.now (annotated.at + 2) 0 ≤ most_atoms }
+    ensures { AnnotationBlock ws.new setting.now annotated result }
 {
-    let first = start(ws, index);
+    let first = start(ws, annotated.index);
+    let bytes = setting.routine.bytes;
+    let end = setting.routine.proof_start();
     let registers = first.registers;
-    let read = term_reader::expression(bytes, ws, end, REGISTERS, registers, at + 3, REGISTERS);
-    let Parse::Term {
-        number: credit,
-        next,
-        left: _,
-        top,
-    } = read
-    else {
+    let source = Source {
+        bytes,
+        end,
+        limit: REGISTERS,
+        registers,
+    };
+    let Ok(credit) = term_reader::expression(&source, ws, annotated.at + 3, REGISTERS) else {
         return Block {
             path: first,
             credit: 0,
         };
     };
-    let number = fields::wide_byte(bytes[at + 2]);
-    let path = assume(bytes, end, next, number, ws, paths::raised(first, top));
+    let condition = Condition {
+        at: credit.next,
+        atoms: usize::from(bytes[annotated.at + 2]),
+    };
+    let path = assume(bytes, end, condition, ws, first.raised(credit.top));
     Block {
         path,
-        credit: fields::wide(credit),
+        credit: credit.node,
     }
 }

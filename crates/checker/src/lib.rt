@@ -7,18 +7,18 @@ ghost use Rattle.model.specs.Routine.{read_routine};
 ghost use Rattle.model.specs.Property.{Safe};
 ghost use Rattle.workspace.specs.Layout.{area_words};
 ghost use Rattle.policy.specs.Policy.{policy_of, Checked};
-ghost use Rattle.header.specs.Headers.{Fits};
 ghost use Rattle.forms.specs.Area.{Cleared};
+ghost use Rattle.evaluation.specs.Blocks.{verdict_of};
 ghost use Rattle.checker.specs.Checks.{routine_verdict, AnnotationsChecked};
 
-use annotations::reading::AnnotationsAnswer;
-use header::HeaderAnswer;
-use jumps::Setting;
-use limits::{LEAST_WORKSPACE, MOST_ANNOTATIONS};
-use model::{Header, Refusal, Verdict};
-use policy::{Policy, PolicyAnswer};
-use routine::instructions::CodeAnswer;
-use targets::TargetsAnswer;
+use annotations::reading;
+use header::package::Package;
+use limits::LEAST_WORKSPACE;
+use model::{Refusal, Verdict};
+use policy::Policy;
+use refusals::Refused;
+use routine::instructions;
+use setting::Setting;
 use workspace::AREA_WORDS;
 
 // Makes the words zero in which linear forms are compared.
@@ -34,61 +34,63 @@ fn check_annotations(
     workspace: &mut [u32],
     conditions: &[u8],
     policy: Policy,
-    bytes: &[u8],
-    header: Header,
-) -> Verdict
-    requires least_workspace_in_bounds { least_workspace ≤ length workspace.old }
-    requires checked { Checked conditions.now policy × Fits bytes.now header }
-    ensures { AnnotationsChecked bytes.now (policy_of conditions.now policy) header result }
+    routine: &Package,
+) -> Result<usize, Refused>
+    requires room { least_workspace ≤ length workspace.old }
+    requires checked { Checked conditions.now policy }
+    ensures { AnnotationsChecked routine.now.bytes.now (policy_of conditions.now policy) routine.now.header (verdict_of result) }
 {
-    let mut indexes = [0u32; MOST_ANNOTATIONS];
-    let mut places = [0u32; MOST_ANNOTATIONS];
-    let read = annotations::reading::read_annotations(bytes, header, &mut indexes, &mut places);
-    if let AnnotationsAnswer::Refused(refusal) = read {
-        return refusals::refusing(refusal, 0);
-    }
-    let targets = targets::check_targets(bytes, header, &indexes);
-    if let TargetsAnswer::Refused(refusal) = targets {
-        return refusals::refusing(refusal, 0);
-    }
+    let read = reading::read_annotations(routine)?;
+    let annotations = read.as_slice();
+    targets::check_targets(routine, annotations)?;
     clear_area(workspace);
     let setting = Setting {
+        conditions,
         policy,
-        header,
-        end: header::proof_start(header),
+        routine: *routine,
+        annotations,
     };
-    evaluation::evaluate(bytes, conditions, &indexes, &places, setting, workspace)
+    evaluation::evaluate(&setting, workspace)
 }
 
 // Checks 7, 8 and 9, and what comes after them.
-fn check_package(workspace: &mut [u32], conditions: &[u8], policy: Policy, bytes: &[u8]) -> Verdict
-    requires least_workspace_in_bounds { least_workspace ≤ length workspace.old }
+fn check_package(
+    workspace: &mut [u32],
+    conditions: &[u8],
+    policy: Policy,
+    bytes: &[u8],
+) -> Result<usize, Refused>
+    requires room { least_workspace ≤ length workspace.old }
     requires checked { Checked conditions.now policy }
-    ensures { result ≡ routine_verdict bytes.now (policy_of conditions.now policy) (read_routine bytes.now) }
+    ensures { verdict_of result ≡ routine_verdict bytes.now (policy_of conditions.now policy) (read_routine bytes.now) }
 {
-    let header = match header::read_header(bytes) {
-        HeaderAnswer::Passed(header) => header,
-        HeaderAnswer::Refused(refusal) => return refusals::refusing(refusal, 0),
-    };
-    let code = routine::instructions::check_code(bytes, header);
-    if let CodeAnswer::Refused(refusal) = code {
-        return refusals::refusing(refusal, 0);
-    }
-    check_annotations(workspace, conditions, policy, bytes, header)
+    let routine = header::read_package(bytes)?;
+    instructions::check_code(&routine)?;
+    check_annotations(workspace, conditions, policy, &routine)
 }
 
 // Checks 3 to 6, and what comes after them.
-fn check_policy(workspace: &mut [u32], conditions: &[u8], bytes: &[u8]) -> Verdict
+fn check_policy(workspace: &mut [u32], conditions: &[u8], bytes: &[u8]) -> Result<usize, Refused>
     requires { least_workspace ≤ length workspace.old }
-    ensures { result ≡ check_of (length workspace.old) conditions.now bytes.now }
+    ensures { verdict_of result ≡ check_of (length workspace.old) conditions.now bytes.now }
 {
-    let read = policy::read_policy(conditions);
-    let answer = read.answer;
-    if let PolicyAnswer::Refused(refusal) = answer {
-        return refusals::refusing(refusal, 0);
-    }
-    let policy = read.policy;
+    let policy = policy::read_policy(conditions)?;
     check_package(workspace, conditions, policy, bytes)
+}
+
+// The verdict of so many goals, all derived, or of a refusal.
+#[tactic(auto, unfolding(evaluation::specs::Blocks::verdict_of))]
+fn verdict(judged: Result<usize, Refused>) -> Verdict
+    ensures { result ≡ verdict_of judged }
+{
+    match judged {
+        Ok(goals) => Verdict {
+            number: 0,
+            place: 0,
+            goals,
+        },
+        Err(refused) => Verdict::from(refused),
+    }
 }
 
 // Judges a package under a policy. The workspace is left all zero; after 1, untouched.
@@ -100,7 +102,7 @@ pub fn check(workspace: &mut [u32], policy: &[u8], bytes: &[u8]) -> Verdict
     if workspace.len() < LEAST_WORKSPACE {
         return refusals::refusing(Refusal::SmallWorkspace, 0);
     }
-    let verdict = check_policy(workspace, policy, bytes);
+    let judged = check_policy(workspace, policy, bytes);
     workspace::clear(workspace);
-    verdict
+    verdict(judged)
 }

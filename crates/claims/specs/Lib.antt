@@ -1,4 +1,4 @@
 pub mod Parts
-pub mod Rule
+pub mod Rules
 pub mod Plan
 pub mod Regions

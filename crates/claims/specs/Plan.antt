@@ -1,12 +1,13 @@
 -- What a rule asks of a claim, in terms of the term table. Assumes nothing.
-use Rattle.std.specs.Prelude.{◌≡◌, Bool, true, false, List, ◌∷◌, [], ℕ, zero, suc, ◌+◌, ◌-◌, ◌<◌, ◌≤◌}
-use Rattle.model.specs.Result.{Fit, misfit, stop, value}
+use Rattle.std.specs.Prelude.{◌≡◌, Bool, true, false, List, [], ℕ, ◌+◌, ◌≤◌, ◌<◌, map, take, IfOk}
+use Rattle.std.specs.List.{All}
+use Rattle.model.specs.Result.{Result, Fit, misfit, Err, Ok}
 use Rattle.model.specs.Atom.{Atom}
 use Rattle.model.specs.Policy.{Policy}
 use Rattle.model.specs.Goals.{Goal, Claim as Claimed}
 use Rattle.model.specs.Rule.{Rule, premises}
 use Rattle.model.specs.declared.Comparison.{Comparison}
-use Rattle.model.specs.declared.Comparison.TheVariants.{Equal}
+use Rattle.model.specs.declared.Misfit.{Misfit}
 use Rattle.workspace.specs.Layout.{Same}
 use Rattle.nodes.specs.Table.{place, term_at, Formed}
 use Rattle.claims.specs.declared.Claim.{Claim}
@@ -18,22 +19,24 @@ use Rattle.claims.specs.declared.Plan.{Plan}
 abbrev pub premise : Comparison → (left right : ℕ) → Premise
 premise kind left right = record { kind = kind; left = left; right = right }
 
--- stands where there is no premise
-abbrev pub blank : Premise
-blank = premise Equal 0 0
+-- a plan's premises, in order
+abbrev pub listed : Plan → List Premise
+listed p = take p.count p.premises
 
-abbrev pub plan : Bool → (count : ℕ) → (first second third : Premise) → (top : ℕ) → Plan
-plan fits count first second third top = record { fits = fits; count = count; first = first; second = second; third = third; top = top }
+-- a plan of these premises, over a table with this top
+pub record Plans (premises : List Premise) (top : ℕ) (p : Plan) : Type 0 where
+  pub premises_are : listed p ≡ premises
+  pub top_is : p.top ≡ top
 
--- the plan without its first premise
-abbrev pub rest_of : Plan → Plan
-rest_of p = plan p.fits (p.count - 1) p.second p.third p.third p.top
+-- the same of an answer
+abbrev pub lists : Result Plan Misfit → Fit (List Premise)
+lists (Ok p) = Ok (listed p)
+lists (Err e) = Err e
 
--- premise k, of three
-abbrev pub premise_at : Plan → (k : ℕ) → Premise
-premise_at p zero = p.first
-premise_at p (suc zero) = p.second
-premise_at p (suc (suc k)) = p.third
+-- the same of a rule without premises, by its test
+abbrev pub none_where : Bool → Fit (List Premise)
+none_where true = Ok []
+none_where false = Err misfit
 
 -- ---- what a plan says in the words us
 abbrev pub atom_in : List ℕ → Premise → Atom
@@ -42,20 +45,12 @@ atom_in us p = record { kind = p.kind; left = term_at us p.left; right = term_at
 abbrev pub premise_claim : Premise → Claim
 premise_claim p = AtomClaim p.kind p.left p.right
 
--- so many premises, from premise k on
-abbrev pub premises_from : List ℕ → Plan → (left k : ℕ) → List Atom
-premises_from us p zero k = []
-premises_from us p (suc left) k = atom_in us (premise_at p k) ∷ premises_from us p left (suc k)
-
 abbrev pub premises_of : List ℕ → Plan → List Atom
-premises_of us p = premises_from us p p.count 0
+premises_of us p = map (atom_in us) (listed p)
 
-abbrev pub fitting : Bool → List Atom → Fit (List Atom)
-fitting true atoms = value atoms
-fitting false atoms = stop misfit
-
-abbrev pub plan_of : List ℕ → Plan → Fit (List Atom)
-plan_of us p = fitting p.fits (premises_of us p)
+abbrev pub plan_of : List ℕ → Result Plan Misfit → Fit (List Atom)
+plan_of us (Ok p) = Ok (premises_of us p)
+plan_of us (Err e) = Err e
 
 -- ---- the contract
 abbrev pub PremiseBelow : (top : ℕ) → Premise → Type 0
@@ -72,11 +67,16 @@ pub record Grows (ws us : List ℕ) (top high : ℕ) : Type 0 where
   pub above : top ≤ high
   pub few : high ≤ top + new_nodes
 
--- the plan says what is asked, wherever the policy and the goal are such as `Where` says; its premises are nodes of the table
-pub record Planned (Where : Policy → Goal → Type 0) (asked : Policy → Goal → Fit (List Atom)) (ws us : List ℕ) (top : ℕ) (r : Plan) : Type 0 where
+-- the top after an answer: where nothing fits, nothing is added
+abbrev pub top_after : (top : ℕ) → Result Plan Misfit → ℕ
+top_after top (Ok p) = p.top
+top_after top (Err e) = top
+
+-- the answer is what is asked, wherever the policy and the goal are such as `Where` says; its premises are nodes of the table
+pub record Planned (Where : Policy → Goal → Type 0) (asked : Policy → Goal → Fit (List Atom)) (ws us : List ℕ) (top : ℕ) (r : Result Plan Misfit) : Type 0 where
   pub says : (policy : Policy) (g : Goal) → Where policy g → plan_of us r ≡ asked policy g
-  pub grows : Grows ws us top r.top
-  pub below : (k : ℕ) → k < r.count → PremiseBelow r.top (premise_at r k)
+  pub grows : Grows ws us top (top_after top r)
+  pub below : IfOk r (λ p. All (PremiseBelow p.top) (listed p))
 
 -- ---- what is asked, and where
 abbrev pub Anywhere : Policy → Goal → Type 0

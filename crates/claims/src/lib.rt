@@ -4,11 +4,9 @@
 pub mod parts;
 pub mod plans;
 
-use limits::MOST_REGIONS;
-use model::Comparison;
+ghost use Rattle.std.specs.Prelude.{◌≤◌};
 
-// region_words: the policy's regions as words, three a region.
-pub const REGION_WORDS: usize = 3 * MOST_REGIONS;
+use model::Comparison;
 
 // What a goal or a premise claims; terms are nodes of the table.
 #[derive(Clone, Copy)]
@@ -25,10 +23,9 @@ pub struct Goal {
     pub instruction: usize,
 }
 
-// What a claim is judged in: how many regions, assumptions and variables there are.
+// What a claim is judged in: how many assumptions and variables there are.
 #[derive(Clone, Copy)]
 pub struct Scope {
-    pub regions: usize,
     pub assumptions: usize,
     pub variables: usize,
 }
@@ -41,13 +38,44 @@ pub struct Premise {
     pub right: usize,
 }
 
-// What a rule asks of a claim: whether it fits, and its premises, the first `count` of three; `top` is the table's new top.
+// A rule of derivation with its argument: an index of an assumption, a node, or a region's number. In the order of the rule bytes.
+#[derive(Clone, Copy)]
+pub enum Rule {
+    FromAssumption(usize),
+    EqualReflexive,
+    AtMostReflexive,
+    Evaluation,
+    EqualSymmetric,
+    EqualTransitive(usize),
+    AtMostTransitive(usize),
+    LessAtMost(usize),
+    AtMostLess(usize),
+    AtMostOfLess,
+    AtMostOfEqual,
+    Congruence,
+    Linear,
+    ZeroAtMost,
+    SumMonotone,
+    DifferenceMonotone,
+    SuccessorAtMost,
+    BelowSuccessor,
+    SumNoOverflow,
+    LessOfAtMost,
+    UnequalOfLess,
+    UnequalSymmetric,
+    InReadableRegion(usize),
+    InWritableRegion(usize),
+    Contradiction(usize),
+    MaskAtMost,
+    ShiftAtMost,
+    ShiftBounded,
+}
+
+// What a rule asks of a claim that it fits: the first `count` of three premises; `top` is the table's new top.
 #[derive(Clone, Copy)]
 pub struct Plan {
-    pub fits: bool,
     pub count: usize,
-    pub first: Premise,
-    pub second: Premise,
-    pub third: Premise,
+    pub premises: [Premise; 3],
     pub top: usize,
+    ghost few: { count ≤ 3 },
 }

@@ -1,7 +1,7 @@
-// What the programs share: whole files read into lent buffers, and answers printed.
+// What the programs share: whole files read into lent buffers, and words taken from bytes.
 #![tactic(auto)]
 
-ghost use Rattle.std.specs.Prelude.{◌≡◌, ℕ, ◌+◌, ◌*◌, ◌≤◌, ◌<◌, length, take, IfOk};
+ghost use Rattle.std.specs.Prelude.{◌≡◌, ℕ, ◌+◌, ◌*◌, ◌≤◌, ◌<◌, length, take, IfOk, IfSome};
 ghost use Rattle.std.specs.Io.KnownBytes.{Consumes, IsAtEnd};
 ghost use Rattle.console.specs.Counts.{IsPrefixLen};
 ghost use Rattle.console.specs.Words.{words_from};
@@ -10,21 +10,8 @@ use std::io::Read;
 use std::rt::Files;
 use std::{fs, io};
 
-// What reading a file gave: whether it can be read, and if so how many bytes stand at the start of the buffer. If not, a message on
-// standard error has named it.
-#[derive(Clone, Copy)]
-pub struct Loaded {
-    pub readable: bool,
-    pub bytes: usize,
-}
-
-// A file that cannot be read.
-const UNREADABLE: Loaded = Loaded {
-    readable: false,
-    bytes: 0,
-};
-
 // Reads until the buffer is full or the input ends, and answers how many bytes were read.
+#[tactic(auto, using(crate::proofs::Reading::more))]
 fn fill<R: Read>(input: &mut R, buf: &mut [u8]) -> io::Result<usize>
     ensures within { IfOk result (λ n. IsPrefixLen n buf.new) }
     ensures bytes { IfOk result (λ n. Consumes (R.remaining input.old) (R.remaining input.new) (take n buf.new)) }
@@ -50,17 +37,15 @@ fn read_file<R: Files>(rt: &R, name: &str, buf: &mut [u8]) -> io::Result<usize>
 }
 
 // The bytes of a file whose name is text.
-fn load_named<R: Files + Eprint>(rt: &R, name: &str, buf: &mut [u8]) -> Loaded
-    ensures { IsPrefixLen result.bytes buf.new }
+fn load_named<'a, R: Files + Eprint>(rt: &R, name: &str, buf: &'a mut [u8]) -> Option<&'a [u8]>
+    ensures few { IfSome result (λ bytes. length bytes.now ≤ length buf.old) }
+    ensures place { IfSome result (λ bytes. bytes.ref_ptr ≡ buf.entry.ref_ptr) }
 {
     match read_file(rt, name, buf) {
-        Ok(bytes) => Loaded {
-            readable: true,
-            bytes,
-        },
+        Ok(count) => Some(&buf[..count]),
         Err(error) => {
             let _ = eprintln!(rt; "{name}: {error}");
-            UNREADABLE
+            None
         }
     }
 }
@@ -73,40 +58,26 @@ fn complain<R: Eprint>(rt: &R, name: &[u8]) {
     let _ = eprintln!(rt; ": no file has such a name");
 }
 
-// The bytes of a file, as many as the buffer holds.
-pub fn load<R: Files + Eprint>(rt: &R, name: &[u8], buf: &mut [u8]) -> Loaded
-    ensures { IsPrefixLen result.bytes buf.new }
+// The bytes of a file, as many as the buffer holds, which then stand at its start; none where the file cannot be read, and a message on
+// standard error has then named it.
+pub fn load<'a, R: Files + Eprint>(rt: &R, name: &[u8], buf: &'a mut [u8]) -> Option<&'a [u8]>
+    ensures few { IfSome result (λ bytes. length bytes.now ≤ length buf.old) }
+    ensures place { IfSome result (λ bytes. bytes.ref_ptr ≡ buf.entry.ref_ptr) }
 {
-    match str::from_utf8(name) {
-        Ok(text) => load_named(rt, text, buf),
-        Err(_) => {
-            complain(rt, name);
-            UNREADABLE
-        }
-    }
+    let Ok(text) = str::from_utf8(name) else {
+        complain(rt, name);
+        return None;
+    };
+    load_named(rt, text, buf)
 }
 
 // Fills a slice with the words that stand in the bytes from word `first` on.
+#[tactic(auto, using(crate::proofs::Filling::more), unfolding(crate::specs::Words::words_from))]
 pub fn words(bytes: &[u8], first: usize, out: &mut [u32])
     requires { (i : ℕ) → i < length out.old → 4 * (first + i) + 4 ≤ length bytes.now }
     ensures { out.new ≡ words_from bytes.now first (length out.old) }
 {
-    for i in 0..out.len() {
-        out[i] = fields::word(bytes, 4 * (first + i));
+    for (i, word) in out.iter_mut().enumerate() {
+        *word = fields::word(bytes, 4 * (first + i));
     }
-}
-
-// Prints an answer of three named numbers as a line, as in `verdict=0 place=0 goals=1`.
-pub fn print_answer<R: Print>(
-    rt: &R,
-    name: &[u8],
-    number: u32,
-    place: usize,
-    counted: &[u8],
-    count: u64,
-) -> io::Result<()> {
-    rt.write_all(name)?;
-    print!(rt; "={number} place={place} ")?;
-    rt.write_all(counted)?;
-    println!(rt; "={count}")
 }

@@ -3,48 +3,35 @@ use mathlib.Core.Path.{◌≡◌, refl, subst}
 use mathlib.Core.Logic.{◌⊎◌, inl, inr}
 use mathlib.Core.Bool.{Bool, true, false, ◌&&◌, and-eq-true_iff}
 use mathlib.Core.Option.{none, some}
+use Rattle.std.specs.Prelude.{None}
 use mathlib.Core.List.{List, [], ◌∷◌}
-use native.Mathlib.Decide.{ℕ_discrete}
 use native.Mathlib.Omega.{arith}
 use Prim.Native.Nat.{ℕ, zero, suc, ◌^◌, ◌≤◌, ◌<◌, zero-le}
 use borrow.Author.Tests.{ltb-true, leb-true}
 use lib.Dec.{ltb, leb, eqb}
 use lib.ListN.{length, get_elem?}
-use Rattle.model.specs.Result.{Fit, misfit, stop, value, ◌>>=◌, check, found}
+use Rattle.model.specs.Result.{Fit, misfit, Err, Ok, ◌>>=◌, check, found}
 use Rattle.model.specs.Expression.{register_count, most_count}
 use Rattle.model.specs.Instruction.{provided, operations, decode, target_of, target_inside}
 use Rattle.model.specs.declared.Instruction.{Instruction}
 use Rattle.model.specs.declared.Instruction.TheVariants.{Set, Add, AddImmediate, Subtract, Load, Store, Jump, JumpLess, JumpEqual, Return, Mask, Shift}
-use Rattle.decoding.specs.declared.Decoded.TheVariants.{Good, Bad}
-use Rattle.decoding.specs.Decoding.{decoded_of, Formed}
+use Rattle.decoding.specs.Decoding.{Formed}
 
--- operation k's row is f, whose fields give test x and instruction I
-module _ (k op d a b i : ℕ) (f : ℕ → ℕ → ℕ → ℕ → Fit Instruction) (x : Bool) (I : Instruction) (row : get_elem? operations k ≡ some f) (at_row : f d a b i ≡ provided x I) (e : op ≡ k) where
-  pub passes : x ≡ true → Good I ≡ decoded_of (decode op d a b i)
-  unfolding decoded_of decode provided ◌>>=◌ check found
-  passes t = rw (e, row, at_row, t)
-
-  pub fails : x ≡ false → Bad ≡ decoded_of (decode op d a b i)
-  unfolding decoded_of decode provided ◌>>=◌ check found
-  fails t = rw (e, row, at_row, t)
+-- operation k's row is f
+pub row_at : (k op d a b i : ℕ) (f : ℕ → ℕ → ℕ → ℕ → Fit Instruction) → get_elem? operations k ≡ some f → op ≡ k → f d a b i ≡ decode op d a b i
+unfolding decode ◌>>=◌ found
+row_at k op d a b i f at_row e = rw (e, at_row)
 
 past_end : {A : Type 0} (l : List A) (n : ℕ) → length l ≤ n → get_elem? l n ≡ none
 past_end [] n h = refl
 past_end (x ∷ l) zero h = absurd (omega arith)
 past_end (x ∷ l) (suc n) h = past_end l n (omega arith)
 
-pub default : (op d a b i : ℕ) → 10 ≤ op → (op ≡ 10 → ⊥) → (op ≡ 11 → ⊥) → Bad ≡ decoded_of (decode op d a b i)
-unfolding decoded_of decode ◌>>=◌ found
-default op d a b i h ten eleven = rw (past_end operations op (omega arith))
+pub no_row : (op d a b i : ℕ) → 12 ≤ op → Err misfit ≡ decode op d a b i
+unfolding decode ◌>>=◌ found
+no_row op d a b i h = rw (past_end operations op (omega arith))
 
--- a number that is k or the next
-pub one_of_two : (k x : ℕ) → k ≤ x → x < suc (suc k) → (x ≡ k) ⊎ (x ≡ suc k)
-one_of_two k x l u = go (ℕ_discrete x k)
-  where
-    go : Dec (x ≡ k) → (x ≡ k) ⊎ (x ≡ suc k)
-    go (yes e) = inl e
-    go (no n) = inr (omega arith)
-
+-- a number that is k or the next, and not k
 pub the_next : (k x : ℕ) → k ≤ x → x < suc (suc k) → (x ≡ k → ⊥) → x ≡ suc k
 the_next k x l u n = omega arith
 
@@ -52,29 +39,20 @@ the_next k x l u n = omega arith
 above : (k x : ℕ) → k ≤ x → (x ≡ k → ⊥) → suc k ≤ x
 above k x l n = omega arith
 
--- none of the single numbers of the arms: 4 or more; from 6 on, 7 or more; from 9 on, 10 or more
+-- none of the single numbers of the arms: 4 or more; from 6 on, 7 or more; from 9 on, 12 or more
 pub record Other (x : ℕ) : Type 0 where
   pub from4 : 4 ≤ x
   pub from6 : 6 ≤ x → 7 ≤ x
-  pub from9 : 9 ≤ x → 10 ≤ x
+  pub from9 : 9 ≤ x → 12 ≤ x
 
-pub other : (x : ℕ) → ((((Unit {0} × (x ≡ 0 → ⊥)) × ((x ≡ 1) ⊎ (x ≡ 3) → ⊥)) × (x ≡ 2 → ⊥)) × (x ≡ 6 → ⊥)) × (x ≡ 9 → ⊥) → Other x
-other x r = record {
-  from4 = above 3 x (above 2 x (above 1 x (above 0 x zero-le r.0.0.0.0.1) (λ e. r.0.0.0.1 (inl e))) r.0.0.1) (λ e. r.0.0.0.1 (inr e));
-  from6 = λ l. above 6 x l r.0.1;
-  from9 = λ l. above 9 x l r.1;
-}
-
--- what an answer says of the decoding
-pub decoded : (m : Fit Instruction) (x : Instruction) → Good x ≡ decoded_of m → m ≡ value x
-unfolding decoded_of
-decoded (stop e) x p = let z : ◌≡◌ {A = ℕ} 0 1 = cc in absurd (omega arith)
-decoded (value y) x p = cc
-
-pub undecoded : (m : Fit Instruction) → Bad ≡ decoded_of m → m ≡ stop misfit
-unfolding decoded_of
-undecoded (stop tt) p = refl
-undecoded (value y) p = let z : ◌≡◌ {A = ℕ} 0 1 = cc in absurd (omega arith)
+pub other : (x : ℕ) → ((((((Unit {0} × (x ≡ 0 → ⊥)) × ((x ≡ 1) ⊎ (x ≡ 3) → ⊥)) × (x ≡ 2 → ⊥)) × (x ≡ 6 → ⊥)) × (x ≡ 9 → ⊥)) × (x ≡ 10 → ⊥)) × (x ≡ 11 → ⊥) → Other x
+other x r =
+    let low = r.0.0.0.0.0 in
+    record {
+      from4 = above 3 x (above 2 x (above 1 x (above 0 x zero-le low.0.1) (λ e. low.1 (inl e))) r.0.0.0.0.1) (λ e. low.1 (inr e));
+      from6 = λ l. above 6 x l r.0.0.0.1;
+      from9 = λ l. above 11 x (above 10 x (above 9 x l r.0.0.1) r.0.1) r.1;
+    }
 
 three : (p q r : Bool) → (p && q && r) ≡ true → (p ≡ true) × (q ≡ true) × (r ≡ true)
 three p q r e =
@@ -105,7 +83,7 @@ module _ (n d a b i : ℕ) (w : i < 2 ^ 32) where
   branch t z = let r = three (eqb d 0) (ltb a register_count) (ltb b register_count) t in (ltb-true a register_count r.1, ltb-true b register_count r.2, ltb-true i n z)
 
   abbrev FormedBy : (ℕ → ℕ → ℕ → ℕ → Fit Instruction) → Type 0
-  FormedBy f = (x : Instruction) → f d a b i ≡ value x → target_inside n x ≡ true → Formed n x
+  FormedBy f = (x : Instruction) → f d a b i ≡ Ok x → target_inside n x ≡ true → Formed n x
 
   -- a row with this test and this instruction
   row : (t : Bool) (I : Instruction) → (t ≡ true → target_inside n I ≡ true → Formed n I) → FormedBy (λ d a b i. provided t I)
@@ -142,6 +120,22 @@ module _ (n d a b i : ℕ) (w : i < 2 ^ 32) where
   formed_in (f ∷ fs) (one then each) zero x e z = one x e z
   formed_in (f ∷ fs) (one then each) (suc op) x e z = formed_in fs each op x e z
 
-  pub formed : (op : ℕ) (x : Instruction) → decode op d a b i ≡ value x → target_inside n x ≡ true → Formed n x
+  pub formed : (op : ℕ) (x : Instruction) → decode op d a b i ≡ Ok x → target_inside n x ≡ true → Formed n x
   unfolding decode
   formed op x e z = formed_in operations each_formed op x e z
+
+-- an instruction that is no jump has no target
+pub no_target : (x : Instruction) → ((i : ℕ) → x ≡ Jump i → ⊥) → ((a b i : ℕ) → x ≡ JumpLess a b i → ⊥) → ((a b i : ℕ) → x ≡ JumpEqual a b i → ⊥) → None ≡ target_of x
+unfolding target_of
+no_target (Set d i) j l e = refl
+no_target (Add d a b) j l e = refl
+no_target (AddImmediate d a i) j l e = refl
+no_target (Subtract d a b) j l e = refl
+no_target (Load d a i) j l e = refl
+no_target (Store d a i) j l e = refl
+no_target (Jump i) j l e = absurd (j i refl)
+no_target (JumpLess a b i) j l e = absurd (l a b i refl)
+no_target (JumpEqual a b i) j l e = absurd (e a b i refl)
+no_target Return j l e = refl
+no_target (Mask d a i) j l e = refl
+no_target (Shift d a i) j l e = refl

@@ -1,24 +1,8 @@
--- What decoding an instruction and finding its target promise, and when an instruction is formed. Assumes nothing.
-use Rattle.std.proofs.Math.Option.{Option, none, some}
+-- When an instruction is formed. Assumes nothing.
 use Rattle.std.specs.Prelude.{ℕ, ◌^◌, ◌≤◌, ◌<◌}
-use Rattle.model.specs.Result.{Fit, stop, value}
 use Rattle.model.specs.Expression.{register_count, most_count}
 use Rattle.model.specs.declared.Instruction.{Instruction}
 use Rattle.model.specs.declared.Instruction.TheVariants.{Set, Add, AddImmediate, Subtract, Load, Store, Jump, JumpLess, JumpEqual, Return, Mask, Shift}
-use Rattle.decoding.specs.declared.Decoded.{Decoded}
-use Rattle.decoding.specs.declared.Decoded.TheVariants.{Good, Bad}
-use Rattle.decoding.specs.declared.Target.{Target}
-use Rattle.decoding.specs.declared.Target.TheVariants.{At, Nowhere}
-
--- the answer for a decoding
-unfoldable pub decoded_of : Fit Instruction → Decoded
-decoded_of (stop e) = Bad
-decoded_of (value x) = Good x
-
--- a target as a result of the definitions
-unfoldable pub target_option : Target → Option ℕ
-target_option (At t) = some t
-target_option Nowhere = none
 
 -- the registers are among the sixteen, the immediate is a word, a jump's target is below n, and a shift's count is at most 31
 abbrev pub Formed : (n : ℕ) → Instruction → Type 0

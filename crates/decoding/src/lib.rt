@@ -1,121 +1,89 @@
 // Decoding: the instruction of an operation word's bytes and an immediate, and where it may jump.
 #![tactic(auto)]
 
-ghost use Rattle.std.specs.Prelude.{◌≡◌, ◌≤◌};
-ghost use Rattle.model.specs.Instruction.{decode, target_of, target_inside};
-ghost use Rattle.decoding.specs.Decoding.{decoded_of, target_option};
+ghost use Rattle.std.specs.Prelude.{◌≡◌, ◌&&◌};
+ghost use Rattle.model.specs.Instruction.{register, unused, provided, decode, target_of, target_inside};
 
-use limits::MOST_COUNT;
-use model::Instruction;
+use limits::{MOST_COUNT, REGISTERS};
+use model::{Instruction, Misfit};
 
-// The number of a register is below this.
-const REGISTERS: u8 = limits::REGISTERS as u8;
-
-// What five numbers stand for: an instruction, or none.
-#[derive(Clone, Copy)]
-pub enum Decoded {
-    Good(Instruction),
-    Bad,
+// A byte is the number of a register.
+fn register(number: u8) -> bool
+    ensures { result ≡ register number }
+{
+    usize::from(number) < REGISTERS
 }
 
-// The same as `decode`, for the operations from 10 on.
-fn decode_bitwise(op: u8, d: u8, a: u8, b: u8, i: u32) -> Decoded
-    requires { 10 ≤ op }
-    ensures { result ≡ decoded_of (decode op d a b i) }
+// d and a are the numbers of registers, and b is unused.
+fn two_registers(d: u8, a: u8, b: u8) -> bool
+    ensures { result ≡ (register d && register a && unused b) }
 {
-    match op {
-        10 => {
-            if (d < REGISTERS) & (a < REGISTERS) & (b == 0) {
-                return Decoded::Good(Instruction::Mask { d, a, i });
-            }
-            Decoded::Bad
-        }
-        11 => {
-            if (d < REGISTERS) & (a < REGISTERS) & (b == 0) & (i <= MOST_COUNT) {
-                return Decoded::Good(Instruction::Shift { d, a, i });
-            }
-            Decoded::Bad
-        }
-        _ => Decoded::Bad,
-    }
+    register(d) & register(a) & (b == 0)
+}
+
+// The instruction, if its fields are as they should be.
+fn provided(fields: bool, instruction: Instruction) -> Result<Instruction, Misfit>
+    ensures { result ≡ provided fields instruction }
+{
+    if fields { Ok(instruction) } else { Err(Misfit) }
 }
 
 // The instruction of an operation word's four bytes and an immediate.
-pub fn decode(op: u8, d: u8, a: u8, b: u8, i: u32) -> Decoded
-    ensures { result ≡ decoded_of (decode op d a b i) }
+pub fn decode(op: u8, d: u8, a: u8, b: u8, i: u32) -> Result<Instruction, Misfit>
+    ensures { result ≡ decode op d a b i }
 {
     match op {
-        0 => {
-            if (d < REGISTERS) & (a == 0) & (b == 0) {
-                return Decoded::Good(Instruction::Set { d, i });
-            }
-            Decoded::Bad
-        }
+        0 => provided(register(d) & (a == 0) & (b == 0), Instruction::Set { d, i }),
         1 | 3 => {
-            if (d < REGISTERS) & (a < REGISTERS) & (b < REGISTERS) & (i == 0) {
-                if op == 1 {
-                    return Decoded::Good(Instruction::Add { d, a, b });
-                }
-                return Decoded::Good(Instruction::Subtract { d, a, b });
+            let fields = register(d) & register(a) & register(b) & (i == 0);
+            if op == 1 {
+                provided(fields, Instruction::Add { d, a, b })
+            } else {
+                provided(fields, Instruction::Subtract { d, a, b })
             }
-            Decoded::Bad
         }
-        2 => {
-            if (d < REGISTERS) & (a < REGISTERS) & (b == 0) {
-                return Decoded::Good(Instruction::AddImmediate { d, a, i });
-            }
-            Decoded::Bad
-        }
+        2 => provided(
+            two_registers(d, a, b),
+            Instruction::AddImmediate { d, a, i },
+        ),
         4..=5 => {
-            if (d < REGISTERS) & (a < REGISTERS) & (b == 0) {
-                if op == 4 {
-                    return Decoded::Good(Instruction::Load { d, a, i });
-                }
-                return Decoded::Good(Instruction::Store { d, a, i });
+            if op == 4 {
+                provided(two_registers(d, a, b), Instruction::Load { d, a, i })
+            } else {
+                provided(two_registers(d, a, b), Instruction::Store { d, a, i })
             }
-            Decoded::Bad
         }
-        6 => {
-            if (d == 0) & (a == 0) & (b == 0) {
-                return Decoded::Good(Instruction::Jump { i });
-            }
-            Decoded::Bad
-        }
+        6 => provided((d == 0) & (a == 0) & (b == 0), Instruction::Jump { i }),
         7..=8 => {
-            if (d == 0) & (a < REGISTERS) & (b < REGISTERS) {
-                if op == 7 {
-                    return Decoded::Good(Instruction::JumpLess { a, b, i });
-                }
-                return Decoded::Good(Instruction::JumpEqual { a, b, i });
+            let fields = (d == 0) & register(a) & register(b);
+            if op == 7 {
+                provided(fields, Instruction::JumpLess { a, b, i })
+            } else {
+                provided(fields, Instruction::JumpEqual { a, b, i })
             }
-            Decoded::Bad
         }
-        9 => {
-            if (d == 0) & (a == 0) & (b == 0) & (i == 0) {
-                return Decoded::Good(Instruction::Return);
-            }
-            Decoded::Bad
+        9 => provided(
+            (d == 0) & (a == 0) & (b == 0) & (i == 0),
+            Instruction::Return,
+        ),
+        10 => provided(two_registers(d, a, b), Instruction::Mask { d, a, i }),
+        11 => {
+            let fields = two_registers(d, a, b) & (i <= MOST_COUNT);
+            provided(fields, Instruction::Shift { d, a, i })
         }
-        _ => decode_bitwise(op, d, a, b, i),
+        _ => Err(Misfit),
     }
 }
 
-// Where an instruction may jump.
-#[derive(Clone, Copy)]
-pub enum Target {
-    At(u32),
-    Nowhere,
-}
-
 // The target of a jump.
-pub fn target_of(instruction: Instruction) -> Target
-    ensures { target_option result ≡ target_of instruction }
+pub fn target_of(instruction: Instruction) -> Option<u32>
+    ensures { result ≡ target_of instruction }
 {
     match instruction {
-        Instruction::Jump { i } => Target::At(i),
-        Instruction::JumpLess { a: _, b: _, i } => Target::At(i),
-        Instruction::JumpEqual { a: _, b: _, i } => Target::At(i),
-        _ => Target::Nowhere,
+        Instruction::Jump { i } => Some(i),
+        Instruction::JumpLess { i, .. } => Some(i),
+        Instruction::JumpEqual { i, .. } => Some(i),
+        _ => None,
     }
 }
 
@@ -123,9 +91,8 @@ pub fn target_of(instruction: Instruction) -> Target
 pub fn target_inside(count: usize, instruction: Instruction) -> bool
     ensures { result ≡ target_inside count instruction }
 {
-    let target = target_of(instruction);
-    match target {
-        Target::At(i) => fields::wide(i) < count,
-        Target::Nowhere => true,
+    match target_of(instruction) {
+        Some(target) => (target as usize) < count,
+        None => true,
     }
 }

@@ -1,18 +1,20 @@
 -- Laws of a rule applied to a claim: one for each way out. Assumes nothing.
-use mathlib.Core.Path.{◌≡◌, refl, sym, ap, subst, ◌∙◌}
-use mathlib.Core.Bool.{true, false}
-use mathlib.Core.List.{List, []}
-use Prim.Native.Nat.{ℕ, zero, suc, ◌<◌, ◌≤◌, ◌+◌}
+use mathlib.Core.Path.{◌≡◌, refl, sym, ap, ◌∙◌}
+use mathlib.Core.List.{List, [], ◌∷◌}
+use Prim.Native.Nat.{ℕ, zero, suc, ◌<◌, ◌≤◌}
 use native.Mathlib.Omega.{arith}
-use lib.ListN.{length}
-use Rattle.model.specs.Result.{value, stop_as}
+use lib.ListN.{length, get_or}
+use Rattle.std.specs.Prelude.{map}
+use Rattle.model.specs.Result.{Result, Err, Ok, misfit, map_err}
 use Rattle.model.specs.Atom.{Atom}
 use Rattle.model.specs.Policy.{Policy}
 use Rattle.model.specs.Goals.{Goal}
 use Rattle.model.specs.Rule.{premises}
 use Rattle.model.specs.Derivation.{rule_at}
+use Rattle.model.specs.declared.Misfit.{Misfit}
 use Rattle.model.specs.declared.Refusal.{Refusal}
 use Rattle.model.specs.declared.Refusal.TheVariants.{UnfitRule}
+use Rattle.model.specs.declared.Region.{Region}
 use Rattle.model.proofs.Gives.{gives_value}
 use Rattle.model.proofs.Lists.{Every, every_head, every_tail}
 use Rattle.workspace.specs.Layout.{assumption_base, table_base, Same}
@@ -24,18 +26,16 @@ use Rattle.assumptions.specs.Area.{listed}
 use Rattle.assumptions.proofs.Laws.{held_kept, listed_kept}
 use Rattle.claims.specs.Parts.{claim_of, ClaimBelow}
 use Rattle.model_laws.specs.Bounded.{AtomBounded}
-use Rattle.claims.specs.Plan.{fitting, premises_of, plan_of, asks, Planned, premises_from, premise_at, atom_in}
-use Rattle.claims.specs.Regions.{regions_of}
-use Rattle.claims.specs.Rule.{rule_of}
-use Rattle.rule_reader.specs.Opening.{Opening, Opens}
+use Rattle.claims.specs.Plan.{listed as premises_listed, premises_of, plan_of, asks, Planned, atom_in}
+use Rattle.claims.specs.Rules.{rule_in}
+use Rattle.rule_reader.specs.Opening.{Opening, OpenedGrown}
 use Rattle.derivation.specs.Deriving.{Judged, Prepared, Plannable, Derivable, applied, Applies}
 use Rattle.claims.specs.declared.Claim.{Claim}
 use Rattle.claims.specs.declared.Claim.TheVariants.{Atom as AtomClaim, Readable, Writable}
 use Rattle.claims.specs.declared.Scope.{Scope}
 use Rattle.claims.specs.declared.Plan.{Plan}
-use Rattle.derivation.specs.declared.Step.TheVariants.{Premises, Refused as RefusedStep}
+use Rattle.claims.specs.declared.Premise.{Premise}
 use Rattle.rule_reader.specs.declared.Opened.{Opened}
-use Rattle.rule_reader.specs.declared.Opened.TheVariants.{Rule as OpenRule, Refused as RefusedRule}
 use Rattle.model_laws.proofs.Bounds.{premises_bounded, rule_read}
 use Rattle.model_laws.proofs.Steps.{stops, goes_on}
 use Rattle.claims.proofs.PlanLaws.{kept_term}
@@ -57,9 +57,9 @@ module _ {ws us : List ℕ} {top : ℕ} (s : Same 0 (place top) ws us) where
     pub prepared_kept : length us ≡ length ws → Prepared us top scope
     prepared_kept e = prepared_grown (formed_same top (same_within table_base (place top) (omega arith) (omega arith) s) e y.formed) (omega arith)
 
-    pub judged_kept : {words : List ℕ} {policy : Policy} {g : Goal} → Judged words ws scope policy g → Judged words us scope policy g
+    pub judged_kept : {regions : List Region} {policy : Policy} {g : Goal} → Judged regions ws scope policy g → Judged regions us scope policy g
     judged_kept j = record {
-      regions = j.regions;
+      regions_are = j.regions_are;
       assumptions = j.assumptions ∙ sym (listed_kept (same_within assumption_base (place top) (omega arith) (omega arith) s) y.assumed);
       variables = j.variables;
     }
@@ -74,15 +74,14 @@ claim_higher top high (AtomClaim kind left right) h b = (omega (arith, b.0), ome
 claim_higher top high (Readable t) h b = omega arith
 claim_higher top high (Writable t) h b = omega arith
 
--- ---- what holds of every premise
-every_premise : (P : Atom → Type 0) (us : List ℕ) (p : Plan) (left k : ℕ) → Every P (premises_from us p left k) → (i : ℕ) → i < left → P (atom_in us (premise_at p (i + k)))
-every_premise P us p zero k e i h = absurd (omega arith)
-every_premise P us p (suc left) k e zero h = let same : k ≡ 0 + k = omega arith in subst (λ j. P (atom_in us (premise_at p j))) same (every_head e)
-every_premise P us p (suc left) k e (suc i) h =
-    let same : i + suc k ≡ suc i + k = omega arith in subst (λ j. P (atom_in us (premise_at p j))) same (every_premise P us p left (suc k) (every_tail e) i (omega arith))
+-- what holds of every atom that premises say
+every_listed : (P : Atom → Type 0) (us : List ℕ) (xs : List Premise) → Every P (map (atom_in us) xs) → (k : ℕ) (d : Premise) → k < length xs → P (atom_in us (get_or xs k d))
+every_listed P us [] e k d h = absurd (omega arith)
+every_listed P us (x ∷ xs) e zero d h = every_head e
+every_listed P us (x ∷ xs) e (suc k) d h = every_listed P us xs (every_tail e) k d (omega arith)
 
 -- ---- what the callees ask
-module _ {ws words : List ℕ} {scope : Scope} {top : ℕ} {claim : Claim} (y : Derivable ws words scope 1 top claim) where
+module _ {ws : List ℕ} {regions : List Region} {scope : Scope} {top : ℕ} {claim : Claim} (y : Derivable ws regions scope 1 top claim) where
   pub opening_of : Opening ws scope.variables top
   opening_of = record {
     formed = y.prepared.formed;
@@ -92,83 +91,71 @@ module _ {ws words : List ℕ} {scope : Scope} {top : ℕ} {claim : Claim} (y : 
     most = omega (arith, y.prepared.most);
   }
 
-  module _ {bytes us : List ℕ} {at number v next high : ℕ} (o : Opens bytes ws us scope.variables top at (OpenRule number v next high)) where
-    claim_same : claim_of us claim ≡ claim_of ws claim
-    claim_same = claim_kept top claim o.kept y.below
+  module _ (bytes : List ℕ) (at : ℕ) {us : List ℕ} where
+    pub applies_refused : {r : Result Opened Refusal} {f : Refusal} → Err f ≡ rule_at bytes scope.variables at → OpenedGrown ws us top r → Applies bytes regions ws us scope top claim at (Err f)
+    unfolding applied
+    applies_refused a n = record { says = λ policy g j. stops _ (a ∙ ap (λ k. rule_at bytes k at) (sym j.variables)); kept = n.kept; standing = tt }
 
-    pub plannable : length us ≡ length ws → Plannable us words scope number v claim high
-    plannable e = record {
-      prepared = prepared_grown o.kept y.prepared o.formed o.above;
-      regions = y.regions;
-      space = record { words = omega (arith, y.space.words); fits = omega (arith, y.space.fits, o.few) };
-      below = claim_higher top high claim o.above y.below;
-      bounded = rw claim_same y.bounded;
-      known = o.known.0;
-      held = o.known.1;
-    }
+    module _ {o : Opened} (a : Ok (rule_in us o.rule, o.next) ≡ rule_at bytes scope.variables at) (n : OpenedGrown ws us top (Ok o)) where
+      claim_same : claim_of us claim ≡ claim_of ws claim
+      claim_same = claim_kept top claim n.kept y.below
 
-    module _ {vs : List ℕ} {p : Plan} (q : Planned (Judged words us scope) (asks (rule_of us number v) (claim_of us claim)) us vs high p) where
-      -- the plan, for every policy and goal that these words say
-      said : (policy : Policy) (g : Goal) → Judged words ws scope policy g → plan_of vs p ≡ premises policy g (rule_of us number v) (claim_of ws claim)
-      said policy g j = q.says policy g (judged_kept o.kept y.prepared j) ∙ ap (λ c. premises policy g (rule_of us number v) c) claim_same
-
-      rule_is : (policy : Policy) (g : Goal) → Judged words ws scope policy g → value (rule_of us number v, next) ≡ rule_at bytes g.variables at
-      rule_is policy g j = o.answer ∙ ap (λ n. rule_at bytes n at) (sym j.variables)
-
-      all_kept : Same 0 (place top) ws vs
-      all_kept = same_trans o.kept (same_within {hi = place high} 0 (place top) (omega arith) (omega (arith, o.above)) q.grows.kept)
-
-      pub applies_unfit : p.fits ≡ false → Applies bytes words ws vs scope top claim at (RefusedStep (UnfitRule at))
-      unfolding applied stop_as
-      applies_unfit e = record {
-        says = λ policy g j. goes_on _ (rule_is policy g j) (stops _ (ap (stop_as (λ _. UnfitRule at)) (ap (λ b. fitting b (premises_of vs p)) (sym e) ∙ said policy g j)));
-        kept = all_kept;
-        standing = tt;
+      pub plannable : length us ≡ length ws → Plannable us regions scope o.rule claim o.top
+      plannable e = record {
+        prepared = prepared_grown n.kept y.prepared n.found.0.formed n.found.0.grows;
+        regions_fit = y.regions_fit;
+        space = record { words = omega (arith, y.space.words); fits = omega (arith, y.space.fits, n.found.0.few) };
+        below = claim_higher top o.top claim n.found.0.grows y.below;
+        bounded = rw claim_same y.bounded;
+        held = n.found.1;
       }
 
-      module _ (e : p.fits ≡ true) where
-        fits_said : (policy : Policy) (g : Goal) → Judged words ws scope policy g → value (premises_of vs p) ≡ premises policy g (rule_of us number v) (claim_of ws claim)
-        fits_said policy g j = ap (λ b. fitting b (premises_of vs p)) (sym e) ∙ said policy g j
+      module _ {vs : List ℕ} {r : Result Plan Misfit} (q : Planned (Judged regions us scope) (asks (rule_in us o.rule) (claim_of us claim)) us vs o.top r) where
+        -- the plan, for every policy and goal that these words say
+        said : (policy : Policy) (g : Goal) → Judged regions ws scope policy g → plan_of vs r ≡ premises policy g (rule_in us o.rule) (claim_of ws claim)
+        said policy g j = q.says policy g (judged_kept n.kept y.prepared j) ∙ ap (λ c. premises policy g (rule_in us o.rule) c) claim_same
 
+        rule_is : (policy : Policy) (g : Goal) → Judged regions ws scope policy g → Ok (rule_in us o.rule, o.next) ≡ rule_at bytes g.variables at
+        rule_is policy g j = a ∙ ap (λ k. rule_at bytes k at) (sym j.variables)
+
+        all_kept : Same 0 (place top) ws vs
+        all_kept = same_trans n.kept (same_within {hi = place o.top} 0 (place top) (omega arith) (omega (arith, n.found.0.grows)) q.grows.kept)
+
+        pub applies_unfit : r ≡ Err misfit → Applies bytes regions ws vs scope top claim at (Err (UnfitRule at))
+        unfolding applied map_err
+        applies_unfit e = record {
+          says = λ policy g j. goes_on _ (rule_is policy g j) (stops _ (ap (map_err (λ _. UnfitRule at)) (ap (plan_of vs) (sym e) ∙ said policy g j)));
+          kept = all_kept;
+          standing = tt;
+        }
+
+      module _ {vs : List ℕ} {p : Plan} (q : Planned (Judged regions us scope) (asks (rule_in us o.rule) (claim_of us claim)) us vs o.top (Ok p)) where
         -- some policy and goal that these words say
         policy₀ : Policy
-        policy₀ = record { memory = 0; limit = 0; regions = regions_of words scope.regions; precondition = []; postcondition = [] }
+        policy₀ = record { memory = 0; limit = 0; regions = regions; precondition = []; postcondition = [] }
 
         goal₀ : Goal
         goal₀ = record { assumptions = listed ws scope.assumptions; variables = scope.variables; instruction = 0; claim = claim_of ws claim }
 
-        judged₀ : Judged words ws scope policy₀ goal₀
+        judged₀ : Judged regions ws scope policy₀ goal₀
         unfolding policy₀ goal₀
-        judged₀ = record { regions = refl; assumptions = refl; variables = refl }
+        judged₀ = record { regions_are = refl; assumptions = refl; variables = refl }
 
         premises_within : Every (AtomBounded scope.variables) (premises_of vs p)
         premises_within =
-            gives_value (sym (fits_said policy₀ goal₀ judged₀))
-            (premises_bounded scope.variables policy₀ goal₀ (rule_of us number v) (claim_of ws claim) (gives_value (sym o.answer) (rule_read bytes scope.variables at)).0 y.bounded)
+            gives_value (sym (said q policy₀ goal₀ judged₀))
+            (premises_bounded scope.variables policy₀ goal₀ (rule_in us o.rule) (claim_of ws claim) (gives_value (sym a) (rule_read bytes scope.variables at)).0 y.bounded)
 
-        pub applies_fits : Applies bytes words ws vs scope top claim at (Premises p next)
-        unfolding applied stop_as
+        pub applies_fits : Applies bytes regions ws vs scope top claim at (Ok (p, o.next))
+        unfolding applied map_err
         applies_fits = record {
-          says = λ policy g j. goes_on _ (rule_is policy g j) (goes_on _ (ap (stop_as (λ _. UnfitRule at)) (fits_said policy g j)) refl);
-          kept = all_kept;
+          says = λ policy g j. goes_on _ (rule_is q policy g j) (goes_on _ (ap (map_err (λ _. UnfitRule at)) (said q policy g j)) refl);
+          kept = all_kept q;
           standing = record {
             formed = q.grows.formed;
-            above = omega (arith, o.above, q.grows.above);
-            few = omega (arith, o.few, q.grows.few);
-            within = λ k h. record {
-              below = q.below k h;
-              bounded =
-                  let same : k + 0 ≡ k = omega arith in
-                  subst (λ j. AtomBounded scope.variables (atom_in vs (premise_at p j))) same (every_premise (AtomBounded scope.variables) vs p p.count 0 premises_within k h);
-            };
-            onward = let r = gives_value (sym o.answer) (rule_read bytes scope.variables at) in (r.1, r.2);
+            above = omega (arith, n.found.0.grows, q.grows.above);
+            few = omega (arith, n.found.0.few, q.grows.few);
+            within = λ k d h. record { below = q.below k d h; bounded = every_listed (AtomBounded scope.variables) vs (premises_listed p) premises_within k d h };
+            onward = let s = gives_value (sym a) (rule_read bytes scope.variables at) in (s.1, s.2);
           };
         }
-
-  pub applies_refused : {bytes us : List ℕ} {at : ℕ} {f : Refusal} → Opens bytes ws us scope.variables top at (RefusedRule f) → Applies bytes words ws us scope top claim at (RefusedStep f)
-  unfolding applied
-  applies_refused {bytes} {at = at} o = record { says = λ policy g j. stops _ (o.answer ∙ ap (λ n. rule_at bytes n at) (sym j.variables)); kept = o.kept; standing = tt }
-
--- an answer whose variant is known
-pub opens_told : {bytes ws us : List ℕ} {variables top at : ℕ} {r q : Opened} → Opens bytes ws us variables top at r → r ≡ q → Opens bytes ws us variables top at q
-opens_told {bytes} {ws} {us} {variables} {top} {at} o e = subst (Opens bytes ws us variables top at) e o

@@ -1,11 +1,11 @@
 -- Derivations in terms of the workspace: what they need, and what they owe. Assumes nothing.
-use Rattle.std.specs.Prelude.{◌≡◌, List, ℕ, ◌+◌, ◌*◌, ◌<◌, ◌≤◌, length}
-use Rattle.std.proofs.Math.ListN.{get_elem?}
-use Rattle.model.specs.Result.{Result, stop, value, stop_as, ◌>>=◌}
+use Rattle.std.specs.Prelude.{◌≡◌, List, ℕ, ◌+◌, ◌*◌, ◌<◌, ◌≤◌, length, IfOk}
+use Rattle.std.specs.List.{All}
+use Rattle.model.specs.Result.{Result, Err, Ok, map_err, ◌>>=◌}
 use Rattle.model.specs.Atom.{Atom}
 use Rattle.model.specs.Policy.{Policy}
 use Rattle.model.specs.Goals.{Goal, Claim as Claimed, register_variables}
-use Rattle.model.specs.Rule.{rules, premises}
+use Rattle.model.specs.Rule.{premises}
 use Rattle.model.specs.Derivation.{rule_at, derive}
 use Rattle.model.specs.declared.Refusal.{Refusal}
 use Rattle.model.specs.declared.Refusal.TheVariants.{UnfitRule}
@@ -17,22 +17,20 @@ use Rattle.assumptions.specs.Area.{listed, Listed}
 use Rattle.forms.specs.Area.{Cleared}
 use Rattle.claims.specs.Parts.{claim_of, ClaimBelow}
 use Rattle.model_laws.specs.Bounded.{AtomBounded, ClaimBounded}
-use Rattle.claims.specs.Plan.{atom_in, premises_of, PremiseBelow, new_nodes, premise_at}
-use Rattle.claims.specs.Regions.{regions_of, RegionWords}
-use Rattle.rule_reader.specs.Opening.{form_of, register_nodes}
+use Rattle.claims.specs.Plan.{atom_in, listed as premises_listed, premises_of, PremiseBelow, new_nodes}
+use Rattle.claims.specs.Regions.{RegionList}
+use Rattle.claims.specs.Rules.{RuleBelow}
+use Rattle.rule_reader.specs.Opening.{register_nodes}
 use Rattle.claims.specs.declared.Claim.{Claim}
 use Rattle.claims.specs.declared.Scope.{Scope}
 use Rattle.claims.specs.declared.Premise.{Premise}
 use Rattle.claims.specs.declared.Plan.{Plan}
-use Rattle.derivation.specs.declared.Step.{Step}
-use Rattle.derivation.specs.declared.Step.TheVariants.{Premises, Refused as RefusedStep}
-use Rattle.derivation.specs.declared.Derived.{Derived}
-use Rattle.derivation.specs.declared.Derived.TheVariants.{Next, Refused}
-use Rattle.rule_reader.specs.declared.Form.TheVariants.{Argument}
+use Rattle.claims.specs.declared.Rule.{Rule}
+use Rattle.model.specs.declared.Region.{Region}
 
 -- the policy and the goal whose regions, assumptions and number of variables these are
-pub record Judged (words ws : List ℕ) (scope : Scope) (policy : Policy) (g : Goal) : Type 0 where
-  pub regions : policy.regions ≡ regions_of words scope.regions
+pub record Judged (regions : List Region) (ws : List ℕ) (scope : Scope) (policy : Policy) (g : Goal) : Type 0 where
+  pub regions_are : policy.regions ≡ regions
   pub assumptions : g.assumptions ≡ listed ws scope.assumptions
   pub variables : g.variables ≡ scope.variables
 
@@ -46,39 +44,38 @@ pub record Prepared (ws : List ℕ) (top : ℕ) (scope : Scope) : Type 0 where
   pub cleared : Cleared ws
 
 -- what a rule's plan needs
-pub record Plannable (ws words : List ℕ) (scope : Scope) (number argument : ℕ) (claim : Claim) (top : ℕ) : Type 0 where
+pub record Plannable (ws : List ℕ) (regions : List Region) (scope : Scope) (rule : Rule) (claim : Claim) (top : ℕ) : Type 0 where
   pub prepared : Prepared ws top scope
-  pub regions : RegionWords words scope.regions
+  pub regions_fit : RegionList regions
   pub space : Space ws top new_nodes
   pub below : ClaimBelow top claim
   pub bounded : ClaimBounded scope.variables (claim_of ws claim)
-  pub known : number < length rules
-  pub held : Argument ≡ form_of (get_elem? rules number) → argument < top
+  pub held : RuleBelow top rule
 
 -- nodes that a level of a derivation may make: an argument, and a rule's own
 abbrev pub level_room : ℕ
 level_room = most_nodes + new_nodes
 
 -- what a derivation of at most so many levels needs
-pub record Derivable (ws words : List ℕ) (scope : Scope) (levels top : ℕ) (claim : Claim) : Type 0 where
+pub record Derivable (ws : List ℕ) (regions : List Region) (scope : Scope) (levels top : ℕ) (claim : Claim) : Type 0 where
   pub prepared : Prepared ws top scope
-  pub regions : RegionWords words scope.regions
+  pub regions_fit : RegionList regions
   pub space : Space ws top (level_room * levels)
   pub below : ClaimBelow top claim
   pub bounded : ClaimBounded scope.variables (claim_of ws claim)
 
 -- ---- one rule
 -- the rule at p and its premises for a claim: the premises and the next position
-unfoldable pub applied : (bytes : List ℕ) → Policy → Goal → Claimed → (p : ℕ) → Result Refusal (List Atom × ℕ)
+unfoldable pub applied : (bytes : List ℕ) → Policy → Goal → Claimed → (p : ℕ) → Result (List Atom × ℕ) Refusal
 applied bytes policy g claim p = do
   (rule, q) ← rule_at bytes g.variables p
-  atoms ← stop_as (λ _. UnfitRule p) (premises policy g rule claim)
-  value (atoms, q)
+  atoms ← map_err (λ _. UnfitRule p) (premises policy g rule claim)
+  Ok (atoms, q)
 
--- the premises that a step says in the words us
-abbrev pub step_of : List ℕ → Step → Result Refusal (List Atom × ℕ)
-step_of us (Premises p next) = value (premises_of us p, next)
-step_of us (RefusedStep f) = stop f
+-- the premises that an answer says in the words us
+abbrev pub applied_in : List ℕ → Result (Plan × ℕ) Refusal → Result (List Atom × ℕ) Refusal
+applied_in us (Ok x) = Ok (premises_of us x.0, x.1)
+applied_in us (Err f) = Err f
 
 -- a premise's nodes are below top, its variables among the first n
 pub record PremiseWithin (us : List ℕ) (top n : ℕ) (p : Premise) : Type 0 where
@@ -90,34 +87,19 @@ pub record Standing (bytes us : List ℕ) (n top at : ℕ) (p : Plan) (next : �
   pub formed : Formed us p.top
   pub above : top ≤ p.top
   pub few : p.top ≤ top + level_room
-  pub within : (k : ℕ) → k < p.count → PremiseWithin us p.top n (premise_at p k)
+  pub within : All (PremiseWithin us p.top n) (premises_listed p)
   pub onward : (at < next) × (next ≤ length bytes)
 
--- the same of a step that has premises
-abbrev pub StepStanding : (bytes us : List ℕ) → (n top at : ℕ) → Step → Type 0
-StepStanding bytes us n top at (Premises p next) = Standing bytes us n top at p next
-StepStanding bytes us n top at (RefusedStep f) = Unit {0}
-
--- the step is the definition's, and every word below the top is kept
-pub record Applies (bytes words ws us : List ℕ) (scope : Scope) (top : ℕ) (claim : Claim) (at : ℕ) (r : Step) : Type 0 where
-  pub says : (policy : Policy) (g : Goal) → Judged words ws scope policy g → step_of us r ≡ applied bytes policy g (claim_of ws claim) at
+-- the answer is the definition's, and every word below the top is kept
+pub record Applies (bytes : List ℕ) (regions : List Region) (ws us : List ℕ) (scope : Scope) (top : ℕ) (claim : Claim) (at : ℕ) (r : Result (Plan × ℕ) Refusal) : Type 0 where
+  pub says : (policy : Policy) (g : Goal) → Judged regions ws scope policy g → applied_in us r ≡ applied bytes policy g (claim_of ws claim) at
   pub kept : Same 0 (place top) ws us
-  pub standing : StepStanding bytes us scope.variables top at r
+  pub standing : IfOk r (λ x. Standing bytes us scope.variables top at x.0 x.1)
 
 -- ---- derivations
--- an answer as the definition gives it
-abbrev pub derived_of : Derived → Result Refusal ℕ
-derived_of (Next q) = value q
-derived_of (Refused f) = stop f
-
--- the position after a derivation is past its start, and within the bytes
-abbrev pub Onward : (size at : ℕ) → Derived → Type 0
-Onward size at (Next q) = (at < q) × (q ≤ size)
-Onward size at (Refused f) = Unit {0}
-
 -- The answer is the definition's, for every policy and goal with these regions, assumptions and variables; every word below the top is
--- kept.
-pub record Derives (bytes words ws us : List ℕ) (scope : Scope) (levels top : ℕ) (claim : Claim) (at : ℕ) (r : Derived) : Type 0 where
-  pub answer : (policy : Policy) (g : Goal) → Judged words ws scope policy g → derived_of r ≡ derive bytes policy g levels (claim_of ws claim) at
+-- kept; the position after a derivation is past its start, and within the bytes.
+pub record Derives (bytes : List ℕ) (regions : List Region) (ws us : List ℕ) (scope : Scope) (levels top : ℕ) (claim : Claim) (at : ℕ) (r : Result ℕ Refusal) : Type 0 where
+  pub answer : (policy : Policy) (g : Goal) → Judged regions ws scope policy g → r ≡ derive bytes policy g levels (claim_of ws claim) at
   pub kept : Same 0 (place top) ws us
-  pub onward : Onward (length bytes) at r
+  pub onward : IfOk r (λ q. (at < q) × (q ≤ length bytes))

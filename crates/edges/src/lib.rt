@@ -1,94 +1,68 @@
-// Samples at the limits of packages and workspaces: each is built, judged by the checker, and printed with its answer. The buffers
-// are lent.
+// Samples at the limits of packages and workspaces: each is built, judged by the checker, and printed with its answer.
 #![tactic(auto)]
 
+ghost use Rattle.std.specs.Prelude.{◌≡◌};
+ghost use Rattle.model.specs.Verdict.{workspace_after};
+
+use sample_bytes::packages::Package;
+use sample_bytes::policies::Policy;
 use std::io;
 
-// Checks a package under a policy and prints the answer after the sample's name.
-fn show<R: Print>(
-    rt: &R,
-    name: &[u8],
-    workspace: &mut [u32],
-    policy: &[u8],
-    routine: &[u8],
-) -> io::Result<()> {
-    rt.write_all(name)?;
-    print!(rt; ": ")?;
-    let verdict = loader::check(workspace, policy, routine);
-    console::print_answer(
-        rt,
-        b"verdict",
-        verdict.number,
-        verdict.place,
-        b"goals",
-        verdict.goals as u64,
-    )
+// Where samples are built and judged: the runtime that prints, and lent buffers.
+#[derive(Drop)]
+pub struct Desk<'a, R> {
+    pub rt: &'a R,
+    pub workspace: &'a mut [u32],
+    pub policy: &'a mut [u8],
+    pub routine: &'a mut [u8],
 }
 
-// Checks the package of so many bytes at the start of a buffer under the policy of so many bytes at the start of another.
-pub fn show_parts<R: Print>(
+// Checks a package under a policy and prints the answer after the sample's name.
+fn judge<R: Print>(
     rt: &R,
-    name: &[u8],
+    name: &str,
     workspace: &mut [u32],
     policy: &[u8],
-    p: usize,
     routine: &[u8],
-    r: usize,
-) -> io::Result<()> {
-    if p <= policy.len() && r <= routine.len() {
-        show(rt, name, workspace, &policy[..p], &routine[..r])?;
+) -> io::Result<()>
+    ensures { workspace.new ≡ workspace_after workspace.old }
+{
+    let verdict = loader::check(workspace, policy, routine);
+    println!(rt; "{name}: {verdict}")
+}
+
+impl<R: Print> Desk<'_, R> {
+    // Builds a package and a policy, and judges them.
+    pub fn show(&mut self, name: &str, policy: Policy, package: Package) -> io::Result<()>
+        ensures { self.new.workspace.now ≡ workspace_after self.old.workspace.now }
+    {
+        let policy = policy.write(self.policy);
+        let routine = package.write(self.routine);
+        judge(self.rt, name, self.workspace, policy, routine)
     }
-    Ok(())
 }
 
 // Instruction counts 256 and 257: assignments and a return, under a limit of as many steps.
-pub fn instruction_counts<R: Print>(
-    rt: &R,
-    workspace: &mut [u32],
-    policy: &mut [u8],
-    routine: &mut [u8],
-) -> io::Result<()> {
-    let p = sample_bytes::policy(policy, 1, 256, 0, 1);
-    let r = sample_bytes::assignments(routine, 255);
-    show_parts(rt, b"n = 256", workspace, policy, p, routine, r)?;
-    let r = sample_bytes::assignments(routine, 256);
-    show_parts(rt, b"n = 257", workspace, policy, p, routine, r)
+pub fn instruction_counts<R: Print>(desk: &mut Desk<R>) -> io::Result<()> {
+    desk.show("n = 256", Policy::small(256), Package::Assignments(255))?;
+    desk.show("n = 257", Policy::small(256), Package::Assignments(256))
 }
 
 // The longest package, and one byte more.
-pub fn longest<R: Print>(
-    rt: &R,
-    workspace: &mut [u32],
-    policy: &mut [u8],
-    routine: &mut [u8],
-) -> io::Result<()> {
-    let p = sample_bytes::policy(policy, 1, 1, 0, 1);
-    let r = sample_bytes::padded(routine, 65536);
-    show_parts(rt, b"65536 bytes", workspace, policy, p, routine, r)?;
-    let r = sample_bytes::padded(routine, 65537);
-    show_parts(rt, b"65537 bytes", workspace, policy, p, routine, r)
+pub fn longest<R: Print>(desk: &mut Desk<R>) -> io::Result<()> {
+    desk.show("65536 bytes", Policy::small(1), Package::Padded(65536))?;
+    desk.show("65537 bytes", Policy::small(1), Package::Padded(65537))
 }
 
 // A workspace one word too short.
-pub fn short_workspace<R: Print>(
-    rt: &R,
-    workspace: &mut [u32],
-    policy: &mut [u8],
-    routine: &mut [u8],
-) -> io::Result<()> {
-    let p = sample_bytes::policy(policy, 1, 1, 0, 1);
-    let r = sample_bytes::assignments(routine, 0);
-    show_parts(rt, b"16384 words", workspace, policy, p, routine, r)?;
-    if 16383 <= workspace.len() {
-        show_parts(
-            rt,
-            b"16383 words",
-            &mut workspace[..16383],
-            policy,
-            p,
-            routine,
-            r,
-        )?;
+pub fn short_workspace<R: Print>(desk: &mut Desk<R>) -> io::Result<()> {
+    let package = Package::Assignments(0);
+    desk.show("16384 words", Policy::small(1), package)?;
+    if desk.workspace.len() < 16383 {
+        return Ok(());
     }
-    Ok(())
+    let policy = Policy::small(1).write(desk.policy);
+    let routine = package.write(desk.routine);
+    let workspace = &mut desk.workspace[..16383];
+    judge(desk.rt, "16383 words", workspace, policy, routine)
 }

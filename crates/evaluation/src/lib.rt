@@ -10,53 +10,31 @@ ghost use Rattle.model.specs.Routine.{Routine};
 ghost use Rattle.model.specs.Goals.{trace_of};
 ghost use Rattle.model.specs.Verdict.{judge};
 ghost use Rattle.blocks.specs.Starting.{Workspace};
-ghost use Rattle.jumps.specs.Setting.{Settled, Stands};
+ghost use Rattle.setting.specs.Setting.{Stands};
 ghost use Rattle.evaluation.specs.Blocks.{verdict_of};
 
-use goals::{Judged, Progress};
-use jumps::{Setting, regions};
-use model::{Refusal, Verdict};
+use goals::Progress;
+use model::Refusal;
+use refusals::Refused;
+use setting::Setting;
 
-// The answer once all blocks are evaluated: accepted, unless a goal was refused or bytes of the proof are left.
-fn answer(judged: Judged, size: usize) -> Verdict
-    ensures { result ≡ verdict_of judged size }
+// The goals of a routine that passed checks 7 to 12, under a policy that passed checks 3 to 6: they are derived as they arise, and no byte
+// of the proof is left.
+pub fn evaluate(setting: &Setting, ws: &mut [u32]) -> Result<usize, Refused>
+    requires { Workspace ws.old }
+    ensures { (policy : ModelPolicy) (routine : Routine) → Stands setting.now policy routine → verdict_of result ≡ judge setting.now.routine.bytes.now policy (trace_of policy routine) routine.proof 0 }
 {
-    match judged {
-        Judged::Next(progress) => {
-            if progress.at == size {
-                return Verdict {
-                    number: 0,
-                    place: 0,
-                    goals: progress.goals,
-                };
-            }
-            refusals::refusing(Refusal::ProofLeft(progress.at), progress.goals)
-        }
-        Judged::Refused(refusal, derived) => refusals::refusing(refusal, derived),
-    }
-}
-
-// The answer of a routine that passed checks 7 to 12, under a policy that passed checks 3 to 6: its goals are derived as they arise.
-pub fn evaluate(
-    bytes: &[u8],
-    conditions: &[u8],
-    indexes: &[u32],
-    places: &[u32],
-    setting: Setting,
-    ws: &mut [u32],
-) -> Verdict
-    requires settled { Settled bytes.now conditions.now indexes.now places.now setting }
-    requires workspace { Workspace ws.old }
-    ensures { (policy : ModelPolicy) (routine : Routine) → Stands bytes.now conditions.now places.now setting policy routine → result ≡ judge bytes.now policy (trace_of policy routine) routine.proof 0 }
-{
-    let policy = setting.policy;
-    let regions = regions::region_words(policy);
     let start = Progress {
-        at: setting.end,
+        at: setting.routine.proof_start(),
         goals: 0,
     };
-    let judged = all_blocks::evaluate_blocks(
-        bytes, conditions, &regions, indexes, places, setting, ws, start,
-    );
-    answer(judged, bytes.len())
+    let progress = all_blocks::evaluate_blocks(setting, ws, start)?;
+    let goals = progress.goals;
+    if progress.at != setting.routine.bytes.len() {
+        return Err(Refused {
+            refusal: Refusal::ProofLeft(progress.at),
+            goals,
+        });
+    }
+    Ok(goals)
 }

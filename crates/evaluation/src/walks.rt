@@ -1,121 +1,72 @@
 // The walk along a path, instruction by instruction.
 ghost use Rattle.std.specs.Prelude.{◌≡◌, ◌+◌, ◌<◌};
 ghost use Rattle.nodes.specs.Table.{term_at};
-ghost use Rattle.header.specs.Headers.{Fits};
 ghost use Rattle.decoding.specs.Decoding.{Formed};
 ghost use Rattle.goals.specs.Judging.{Reached};
 ghost use Rattle.paths.specs.Walking.{NodeIn};
-ghost use Rattle.jumps.specs.Setting.{Fixed};
 ghost use Rattle.moves.specs.Moves.{RoomFor};
 ghost use Rattle.evaluation.specs.Walks.{Fetched, Advances, Walks};
 
-use goals::{Judged, Progress};
-use jumps::{Arrived, Setting};
-use model::{Comparison, Header, Instruction, Refusal};
-use moves::assignments::{DIFFERENCE, MASK, SUM};
-use moves::{Moved, MovedAnswer, assignments};
+use goals::Progress;
+use model::{Comparison, Instruction, Refusal};
+use moves::{Moved, assignments};
+use nodes::Operation;
 use paths::Path;
+use refusals::Refused;
 use routine::instructions;
-use routine::instructions::InstructionAnswer;
+use setting::Setting;
 
 // The instruction at an index; checks 8 and 9 have passed it.
-fn fetch(bytes: &[u8], header: Header, index: usize) -> Instruction
-    requires fits { Fits bytes.now header }
-    requires index_lt_instructions { index < header.instructions }
-    ensures { Fetched bytes.now header index result }
+fn fetch(setting: &Setting, index: usize) -> Instruction
+    requires { index < setting.now.routine.header.instructions }
+    ensures { Fetched setting.now index result }
 {
-    let answer = instructions::instruction(bytes, header, index);
-    match answer {
-        InstructionAnswer::Passed(instruction) => instruction,
-        InstructionAnswer::Refused(_) => Instruction::Return,
+    match instructions::instruction(&setting.routine, index) {
+        Ok(instruction) => instruction,
+        Err(_) => Instruction::Return,
     }
 }
 
 // One instruction of a path.
 fn advance(
-    bytes: &[u8],
-    conditions: &[u8],
-    regions: &[u32],
-    indexes: &[u32],
-    places: &[u32],
-    setting: Setting,
+    setting: &Setting,
     ws: &mut [u32],
     credit: usize,
     path: Path,
     instruction: Instruction,
     progress: Progress,
-) -> Moved
-    requires fixed { Fixed bytes.now conditions.now regions.now indexes.now places.now setting }
+) -> Result<Moved, Refused>
     requires room_for { RoomFor ws.old path 1 }
-    requires node_in { NodeIn ws.old path credit }
-    requires reached { Reached bytes.now progress }
-    requires formed { Formed setting.header.instructions instruction }
-    ensures { Advances ws.old ws.new bytes.now conditions.now places.now setting (term_at ws.old credit) path instruction progress result }
+    requires credit_in { NodeIn ws.old path credit }
+    requires reached { Reached setting.now.routine.bytes.now progress }
+    requires formed { Formed setting.now.routine.header.instructions instruction }
+    ensures { Advances ws.old ws.new setting.now (term_at ws.old credit) path instruction progress result }
 {
-    let policy = setting.policy;
-    let count = policy.count;
     match instruction {
         Instruction::Set { d, i } => assignments::set(ws, path, d, i, progress),
-        Instruction::Add { d, a, b } => { assignments::combine(ws, path, SUM, d, a, b, progress) }
+        Instruction::Add { d, a, b } => {
+            assignments::combine(ws, path, Operation::Sum, d, a, b, progress)
+        }
         Instruction::AddImmediate { d, a, i } => {
-            assignments::combine_immediate(ws, path, SUM, d, a, i, progress)
+            assignments::combine_immediate(ws, path, Operation::Sum, d, a, i, progress)
         }
         Instruction::Subtract { d, a, b } => {
-            assignments::combine(ws, path, DIFFERENCE, d, a, b, progress)
+            assignments::combine(ws, path, Operation::Difference, d, a, b, progress)
         }
-        Instruction::Load { d, a, i } => {
-            accesses::load(bytes, regions, count, ws, path, d, a, i, progress)
+        Instruction::Load { d, a, i } => accesses::load(setting, ws, path, d, a, i, progress),
+        Instruction::Store { d: _, a, i } => accesses::store(setting, ws, path, a, i, progress),
+        Instruction::Jump { i } => jumps::jump_to(setting, ws, credit, path, i, progress),
+        Instruction::JumpLess { a, b, i } => {
+            let kind = Comparison::Less;
+            jumps::branch_to(setting, ws, credit, path, kind, a, b, i, progress)
         }
-        Instruction::Store { d: _, a, i } => {
-            accesses::store(bytes, regions, count, ws, path, a, i, progress)
+        Instruction::JumpEqual { a, b, i } => {
+            let kind = Comparison::Equal;
+            jumps::branch_to(setting, ws, credit, path, kind, a, b, i, progress)
         }
-        Instruction::Jump { i } => jumps::jump_to(
-            bytes, regions, indexes, places, setting, ws, credit, path, i, progress,
-        ),
-        Instruction::JumpLess { a, b, i } => jumps::branch_to(
-            bytes,
-            regions,
-            indexes,
-            places,
-            setting,
-            ws,
-            credit,
-            path,
-            Comparison::Less,
-            a,
-            b,
-            i,
-            progress,
-        ),
-        Instruction::JumpEqual { a, b, i } => jumps::branch_to(
-            bytes,
-            regions,
-            indexes,
-            places,
-            setting,
-            ws,
-            credit,
-            path,
-            Comparison::Equal,
-            a,
-            b,
-            i,
-            progress,
-        ),
-        Instruction::Return => jumps::return_from(
-            conditions,
-            policy.postcondition,
-            policy.postcondition_atoms,
-            bytes,
-            regions,
-            count,
-            ws,
-            credit,
-            path,
-            progress,
-        ),
+        Instruction::Return => jumps::return_from(setting, ws, credit, path, progress),
         Instruction::Mask { d, a, i } => {
-            assignments::combine_immediate(ws, path, MASK, d, a, i, progress)
+            assignments::combine_immediate(ws, path, Operation::Mask, d, a, i, progress)
         }
         Instruction::Shift { d, a, i } => assignments::shift(ws, path, d, a, i, progress),
     }
@@ -123,68 +74,31 @@ fn advance(
 
 // The walk along a path with so many instructions left up to n: its goals, up to its end or the first refusal.
 pub fn walk(
-    bytes: &[u8],
-    conditions: &[u8],
-    regions: &[u32],
-    indexes: &[u32],
-    places: &[u32],
-    setting: Setting,
+    setting: &Setting,
     ws: &mut [u32],
     credit: usize,
     left: usize,
     path: Path,
     progress: Progress,
-) -> Judged
-    requires fixed { Fixed bytes.now conditions.now regions.now indexes.now places.now setting }
+) -> Result<Progress, Refused>
     requires room_for { RoomFor ws.old path left }
-    requires node_in { NodeIn ws.old path credit }
-    requires reached { Reached bytes.now progress }
-    requires left_value { path.counter + left ≡ setting.header.instructions }
-    ensures { Walks ws.old ws.new bytes.now conditions.now places.now setting (term_at ws.old credit) left path progress result }
+    requires credit_in { NodeIn ws.old path credit }
+    requires reached { Reached setting.now.routine.bytes.now progress }
+    requires all_left { path.counter + left ≡ setting.now.routine.header.instructions }
+    ensures { Walks ws.old ws.new setting.now (term_at ws.old credit) left path progress result }
 {
-    let header = setting.header;
     if left == 0 {
-        return Judged::Refused(Refusal::PastLast(header.instructions), progress.goals);
+        return Err(Refused {
+            refusal: Refusal::PastLast(setting.routine.header.instructions),
+            goals: progress.goals,
+        });
     }
-    let instruction = fetch(bytes, header, path.counter);
-    let moved = advance(
-        bytes,
-        conditions,
-        regions,
-        indexes,
-        places,
-        setting,
-        ws,
-        credit,
-        path,
-        instruction,
-        progress,
-    );
-    let after = moved.path;
-    let answer = moved.answer;
-    match answer {
-        MovedAnswer::On(next) => {
-            let arrived = jumps::arrive(
-                bytes, regions, indexes, places, setting, ws, credit, after, next,
-            );
-            match arrived {
-                Arrived::At(judged) => judged,
-                Arrived::Nowhere => walk(
-                    bytes,
-                    conditions,
-                    regions,
-                    indexes,
-                    places,
-                    setting,
-                    ws,
-                    credit,
-                    left - 1,
-                    after,
-                    next,
-                ),
-            }
-        }
-        MovedAnswer::Ended(next) => Judged::Next(next),
-        MovedAnswer::Refused(refusal, derived) => Judged::Refused(refusal, derived),
+    let instruction = fetch(setting, path.counter);
+    match advance(setting, ws, credit, path, instruction, progress)? {
+        Moved::Ended(next) => Ok(next),
+        Moved::On(after, next) => match jumps::arrive(setting, ws, credit, after, next)? {
+            Some(done) => Ok(done),
+            None => walk(setting, ws, credit, left - 1, after, next),
+        },
     }
 }

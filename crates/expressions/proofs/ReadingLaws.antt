@@ -1,153 +1,150 @@
 -- The laws of `expression_at`, `atom_at` and `atoms_at`, one for each way out of the code. Assumes nothing.
-use Prim.Native.Nat.{ℕ, zero, suc, ◌+◌, ◌-◌, ◌≤◌, ◌<◌, max}
+use Prim.Native.Nat.{ℕ, suc, ◌+◌, ◌-◌, ◌≤◌, ◌<◌, max}
+use mathlib.Core.Bool.{true, false}
 use mathlib.Core.Path.{◌≡◌, refl, ap, ◌∙◌}
-use mathlib.Core.Logic.{⊎_elim}
-use mathlib.Core.List.{List, [], ◌∷◌}
-use mathlib.Core.Option.{some}
+use mathlib.Core.List.{List, ◌∷◌}
+use mathlib.Core.Option.{Option, none, some}
 use native.Mathlib.Omega.{arith}
 use lib.ListN.{get_or, get_elem?}
-use types.Run.{OneOf}
-use denote.Enum.Declared.{tag_of}
-use Rattle.model.specs.Result.{Result, stop, value, ◌>>=◌, found}
-use Rattle.model.specs.Field.{ReadError, missing, fault}
+use Rattle.model.specs.Result.{Result, Err, Ok, ◌>>=◌, found, misfit}
+use Rattle.std.specs.Result.{is_err}
+use Rattle.model.specs.declared.Misfit.{Misfit}
+use Rattle.model.specs.declared.ReadError.{ReadError}
+use Rattle.model.specs.declared.ReadError.TheVariants.{Missing, Fault}
 use Rattle.model.specs.Expression.{comparisons, most_nodes, Nodes, nodes_at, expression_at, atom_at, atoms_at}
 use Rattle.model.specs.declared.Comparison.{Comparison}
-use Rattle.model.specs.declared.Comparison.TheVariants.{Equal, Unequal, Less, AtMost}
 use Rattle.expressions.specs.declared.scanning.Scanned.{Scanned}
-use Rattle.expressions.specs.declared.scanning.Scanned.TheVariants as scanned
-use Rattle.expressions.specs.declared.Reading.{Reading}
-use Rattle.expressions.specs.declared.Reading.TheVariants.{Next, Missing, Fault}
-use Rattle.expressions.specs.Scanning.{scanned_of, Within, Scans}
-use Rattle.expressions.specs.Reading.{reading_of, Inside, Reads, apart, read_next}
-use Rattle.expressions.specs.contracts.Reading.{the_type}
-use Rattle.expressions.proofs.ScanningLaws.{past, byte_missing, byte_there}
+use Rattle.expressions.specs.Scanning.{scanned_of}
+use Rattle.expressions.specs.Reading.{ends}
+use Rattle.expressions.proofs.ScanningLaws.{byte_missing, byte_there}
+
+-- ---- what a reading is, from where it ends
+
+module _ {A : Type 0} where
+  pub read_next : (x : Result (A × ℕ) ReadError) (q : ℕ) → Ok q ≡ ends x → (a : A) × (x ≡ Ok (a, q))
+  unfolding ends
+  read_next (Err e) q h = absurd (cc)
+  read_next (Ok (a, q')) q h = let same : q ≡ q' = cc in (a, rw same)
+
+  pub read_stops : (x : Result (A × ℕ) ReadError) (e : ReadError) → Err e ≡ ends x → x ≡ Err e
+  unfolding ends
+  read_stops (Err e') e h = let same : e ≡ e' = cc in rw same
+  read_stops (Ok (a, q)) e h = absurd (cc)
+
+  -- a reading that stops stops what follows
+  pub still_stops : {B : Type 0} (x : Result (A × ℕ) ReadError) (k : A × ℕ → Result (B × ℕ) ReadError) (e : ReadError) → Err e ≡ ends x → Err e ≡ ends (x >>= k)
+  unfolding ends ◌>>=◌
+  still_stops x k e h = rw (read_stops x e h)
+
+  -- the value does not show
+  same_end : {B : Type 0} (f : A → B) (x : Result (A × ℕ) ReadError) → ends x ≡ ends (x >>= λ y. Ok (f y.0, y.1))
+  unfolding ends ◌>>=◌
+  same_end f (Err e) = refl
+  same_end f (Ok y) = refl
+
+-- what is looked for is there or not, by the answer's case
+module _ {A : Type 0} where
+  not_found : (x : Option A) → is_err (found x misfit) ≡ true → x ≡ none
+  unfolding found
+  not_found none h = refl
+  not_found (some a) h = absurd (cc)
+
+  is_found : (x : Option A) → is_err (found x misfit) ≡ false → (a : A) × (x ≡ some a)
+  unfolding found
+  is_found none h = absurd (cc)
+  is_found (some a) h = (a, refl)
 
 -- ---- an expression
 
--- the answer of a scan, as that of a reading
-abbrev ended : Scanned → Reading
-ended (scanned.Nodes q left) = Next q
-ended scanned.Missing = Missing
-ended (scanned.Fault p) = Fault p
+-- where a scan ends
+ended : Result Scanned ReadError → Result ℕ ReadError
+ended (Err e) = Err e
+ended (Ok s) = Ok s.next
 
-ended_inside : (end left : ℕ) (r : Scanned) → Within end left r → Inside end (ended r)
-ended_inside end left (scanned.Nodes q l) w = w.0
-ended_inside end left scanned.Missing w = tt
-ended_inside end left (scanned.Fault p) w = tt
-
-ended_reading : (x : Nodes) → ended (scanned_of x) ≡ reading_of (x >>= λ y. value (y.0, y.1))
-unfolding scanned_of reading_of ◌>>=◌
-ended_reading (value y) = refl
-ended_reading (stop missing) = refl
-ended_reading (stop (fault p)) = refl
-
-pub expression_read : (bytes : List ℕ) (end limit at : ℕ) (r s : Scanned) → Scans bytes end limit most_nodes at r → r ≡ s → Reads end (expression_at bytes end limit at) (ended s)
-unfolding expression_at
-expression_read bytes end limit at r s S e = rw (← e) (record {
-  answer = ap ended (S.answer most_nodes (omega arith)) ∙ ended_reading (nodes_at bytes end limit most_nodes most_nodes at);
-  inside = ended_inside end most_nodes r S.within;
-})
-
--- ---- readings one after the other
-
--- the value does not show
-same_reading : {A B : Type 0} (f : A → B) (x : Result ReadError (A × ℕ)) → reading_of x ≡ reading_of (x >>= λ y. value (f y.0, y.1))
-unfolding reading_of ◌>>=◌
-same_reading f (value y) = refl
-same_reading f (stop missing) = refl
-same_reading f (stop (fault p)) = refl
-
--- a reading that stops, told by its tag, stops what follows
-still_stops : {A B : Type 0} (x : Result ReadError (A × ℕ)) (k : A × ℕ → Result ReadError (B × ℕ)) (r : Reading) → r ≡ reading_of x → OneOf (1 ∷ 2 ∷ []) (tag_of the_type r) → r ≡ reading_of (x >>= k)
-unfolding reading_of ◌>>=◌
-still_stops (stop missing) k r e t = e
-still_stops (stop (fault p)) k r e t = e
-still_stops (value y) k (Next q) e t = absurd (⊎_elim (λ z. omega arith) (λ z. omega arith) t)
-still_stops (value y) k Missing e t = apart (cc)
-still_stops (value y) k (Fault p) e t = apart (cc)
-
-stopped_inside : (end : ℕ) (r : Reading) → OneOf (1 ∷ 2 ∷ []) (tag_of the_type r) → Inside end r
-stopped_inside end (Next q) t = absurd (⊎_elim (λ z. omega arith) (λ z. omega arith) t)
-stopped_inside end Missing t = tt
-stopped_inside end (Fault p) t = tt
-
--- ---- an atom
-
-a_comparison : (tag : ℕ) → tag ≤ 3 → (kind : Comparison) × (get_elem? comparisons tag ≡ some kind)
-a_comparison zero h = (Equal, refl)
-a_comparison (suc zero) h = (Unequal, refl)
-a_comparison (suc (suc zero)) h = (Less, refl)
-a_comparison (suc (suc (suc zero))) h = (AtMost, refl)
-a_comparison (suc (suc (suc (suc k)))) h = absurd (omega arith)
+ended_scan : (x : Nodes) → ended (scanned_of x) ≡ ends (x >>= λ y. Ok (y.0, y.1))
+unfolding ended scanned_of ends ◌>>=◌
+ended_scan (Err e) = refl
+ended_scan (Ok y) = refl
 
 module _ (bytes : List ℕ) (end limit at : ℕ) where
-  pub atom_missing : end ≤ at → Reads end (atom_at bytes end limit at) Missing
-  unfolding atom_at ◌>>=◌ reading_of
-  atom_missing h = record { answer = rw (byte_missing bytes end at h, atom_at); inside = tt }
+  expression_end : (r : Result Scanned ReadError) → ((depth : ℕ) → most_nodes ≤ depth → r ≡ scanned_of (nodes_at bytes end limit depth most_nodes at)) → ended r ≡ ends (expression_at bytes end limit at)
+  unfolding expression_at
+  expression_end r scans = ap ended (scans most_nodes (omega arith)) ∙ ended_scan (nodes_at bytes end limit most_nodes most_nodes at)
 
-  pub atom_tag : at < end → 3 < get_or bytes at 0 → Reads end (atom_at bytes end limit at) (Fault at)
-  unfolding atom_at ◌>>=◌ reading_of found
-  atom_tag h t = record { answer = rw (byte_there bytes end at h, past comparisons (get_or bytes at 0) t, atom_at); inside = tt }
+  pub expression_stops : (e : ReadError) → ((depth : ℕ) → most_nodes ≤ depth → Err e ≡ scanned_of (nodes_at bytes end limit depth most_nodes at)) → Err e ≡ ends (expression_at bytes end limit at)
+  unfolding ended
+  expression_stops e scans = expression_end (Err e) scans
 
-  module _ (here : at < end) (known : get_or bytes at 0 ≤ 3) (first : Reading) (F : Reads end (expression_at bytes end limit (at + 1)) first) where
-    -- the atom from its first expression on
-    from_first : (kind : Comparison) → get_elem? comparisons (get_or bytes at 0) ≡ some kind
-        → (expression_at bytes end limit (at + 1) >>= λ y. expression_at bytes end limit y.1 >>= λ z. value (record { kind = kind; left = y.0; right = z.0 }, z.1)) ≡ atom_at bytes end limit at
-    unfolding atom_at ◌>>=◌ found
-    from_first kind e = rw (byte_there bytes end at here, e, atom_at)
+  pub expression_read : (s : Scanned) → ((depth : ℕ) → most_nodes ≤ depth → Ok s ≡ scanned_of (nodes_at bytes end limit depth most_nodes at)) → Ok s.next ≡ ends (expression_at bytes end limit at)
+  unfolding ended
+  expression_read s scans = expression_end (Ok s) scans
 
-    pub atom_stops : OneOf (1 ∷ 2 ∷ []) (tag_of the_type first) → Reads end (atom_at bytes end limit at) first
-    atom_stops t =
-        let k = a_comparison (get_or bytes at 0) known in
-        record {
-          answer = rw (← from_first k.0 k.1) (still_stops (expression_at bytes end limit (at + 1)) _ first F.answer t);
-          inside = stopped_inside end first t;
-        }
+  -- ---- an atom
 
-    pub atom_both : (q : ℕ) → first ≡ Next q → (second : Reading) → Reads end (expression_at bytes end limit q) second → Reads end (atom_at bytes end limit at) second
-    unfolding ◌>>=◌
-    atom_both q e second S =
-        let k = a_comparison (get_or bytes at 0) known in
-        let v = read_next F e in
-        record {
-          answer = rw (← from_first k.0 k.1, v.1) (S.answer ∙ same_reading (λ u. record { kind = k.0; left = v.0; right = u }) (expression_at bytes end limit q));
-          inside = S.inside;
-        }
+  pub atom_missing : end ≤ at → Err Missing ≡ ends (atom_at bytes end limit at)
+  unfolding atom_at ◌>>=◌ ends
+  atom_missing h = rw (byte_missing bytes end at h, atom_at)
+
+  -- the atom from its comparison on
+  from_kind : at < end → (found (get_elem? comparisons (get_or bytes at 0)) (Fault at) >>= λ kind. expression_at bytes end limit (at + 1) >>= λ y. expression_at bytes end limit y.1 >>= λ z. Ok (record { kind = kind; left = y.0; right = z.0 }, z.1)) ≡ atom_at bytes end limit at
+  unfolding atom_at ◌>>=◌
+  from_kind h = rw (byte_there bytes end at h, atom_at)
+
+  module _ (here : at < end) (known : Result Comparison Misfit) (is : known ≡ found (get_elem? comparisons (get_or bytes at 0)) misfit) where
+    pub atom_tag : is_err known ≡ true → Err (Fault at) ≡ ends (atom_at bytes end limit at)
+    unfolding ◌>>=◌ ends found
+    atom_tag t = rw (← from_kind here, not_found (get_elem? comparisons (get_or bytes at 0)) (rw is at t))
+
+    module _ (n : is_err known ≡ false) where
+      a_kind : (kind : Comparison) × (get_elem? comparisons (get_or bytes at 0) ≡ some kind)
+      a_kind = is_found (get_elem? comparisons (get_or bytes at 0)) (rw is at n)
+
+      -- the atom from its first expression on
+      from_first : (expression_at bytes end limit (at + 1) >>= λ y. expression_at bytes end limit y.1 >>= λ z. Ok (record { kind = a_kind.0; left = y.0; right = z.0 }, z.1)) ≡ atom_at bytes end limit at
+      unfolding found ◌>>=◌
+      from_first = rw a_kind.1 at (from_kind here)
+
+      pub atom_stops : (e : ReadError) → Err e ≡ ends (expression_at bytes end limit (at + 1)) → Err e ≡ ends (atom_at bytes end limit at)
+      atom_stops e first = rw (← from_first) (still_stops (expression_at bytes end limit (at + 1)) _ e first)
+
+      pub atom_both : (q : ℕ) → Ok q ≡ ends (expression_at bytes end limit (at + 1)) → (second : Result ℕ ReadError) → second ≡ ends (expression_at bytes end limit q) → second ≡ ends (atom_at bytes end limit at)
+      unfolding ◌>>=◌
+      atom_both q first second s =
+          let v = read_next (expression_at bytes end limit (at + 1)) q first in
+          rw (← from_first, v.1) (s ∙ same_end (λ u. record { kind = a_kind.0; left = v.0; right = u }) (expression_at bytes end limit q))
 
 -- ---- atoms
 
--- the invariant: the whole run is the run from here
-pub record Going (bytes : List ℕ) (end limit count at left next : ℕ) : Type 0 where
-  pub rest : reading_of (atoms_at bytes end limit left next) ≡ reading_of (atoms_at bytes end limit count at)
+-- the invariant: where the whole run ends is where the run from here ends
+pub record Going (bytes : List ℕ) (end limit count at read next : ℕ) : Type 0 where
+  pub few : read ≤ count
+  pub rest : ends (atoms_at bytes end limit (count - read) next) ≡ ends (atoms_at bytes end limit count at)
   pub inside : next ≤ max at end
 
 module _ (bytes : List ℕ) (end limit count at : ℕ) where
-  pub going_start : Going bytes end limit count at count at
-  going_start = record { rest = refl; inside = omega arith }
+  pub going_start : Going bytes end limit count at 0 at
+  going_start = let e : count - 0 ≡ count = omega arith in record { few = omega arith; rest = rw e; inside = omega arith }
 
-  module _ (left next : ℕ) (G : Going bytes end limit count at left next) where
-    pub atoms_read : left ≡ 0 → Reads (max at end) (atoms_at bytes end limit count at) (Next next)
-    unfolding atoms_at reading_of
-    atoms_read z = record { answer = rw z at G.rest; inside = G.inside }
+  module _ (read next : ℕ) (G : Going bytes end limit count at read next) where
+    pub atoms_read : count ≤ read → Ok next ≡ ends (atoms_at bytes end limit count at)
+    unfolding atoms_at ends
+    atoms_read h = let z : count - read ≡ 0 = omega arith in rw z at G.rest
 
-    module _ (some_left : left ≡ 0 → ⊥) (one : Reading) (O : Reads end (atom_at bytes end limit next) one) where
+    module _ (more : read < count) where
       -- the run from its first atom on
-      from_atom : (atom_at bytes end limit next >>= λ y. atoms_at bytes end limit (left - 1) y.1 >>= λ z. value (y.0 ∷ z.0, z.1)) ≡ atoms_at bytes end limit left next
+      from_atom : (atom_at bytes end limit next >>= λ y. atoms_at bytes end limit (count - (read + 1)) y.1 >>= λ z. Ok (y.0 ∷ z.0, z.1)) ≡ atoms_at bytes end limit (count - read) next
       unfolding atoms_at
-      from_atom = let s : suc (left - 1) ≡ left = omega arith in ap (λ n. atoms_at bytes end limit n next) s
+      from_atom = let s : suc (count - (read + 1)) ≡ count - read = omega arith in ap (λ n. atoms_at bytes end limit n next) s
 
-      pub atoms_stop : OneOf (1 ∷ 2 ∷ []) (tag_of the_type one) → Reads (max at end) (atoms_at bytes end limit count at) one
-      atoms_stop t = record {
-        answer = rw (← G.rest, ← from_atom) (still_stops (atom_at bytes end limit next) _ one O.answer t);
-        inside = stopped_inside (max at end) one t;
-      }
+      pub atoms_stop : (e : ReadError) → Err e ≡ ends (atom_at bytes end limit next) → Err e ≡ ends (atoms_at bytes end limit count at)
+      atoms_stop e one = rw (← G.rest, ← from_atom) (still_stops (atom_at bytes end limit next) _ e one)
 
-      pub going_on : (q : ℕ) → one ≡ Next q → Going bytes end limit count at (left - 1) q
+      pub going_on : (q : ℕ) → Ok q ≡ ends (atom_at bytes end limit next) → q ≤ end → Going bytes end limit count at (read + 1) q
       unfolding ◌>>=◌
-      going_on q e =
-          let v = read_next O e in
-          let i : q ≤ end = rw e at O.inside in
+      going_on q one i =
+          let v = read_next (atom_at bytes end limit next) q one in
           record {
-            rest = rw (← G.rest, ← from_atom, v.1) (same_reading (λ u. v.0 ∷ u) (atoms_at bytes end limit (left - 1) q));
+            few = omega arith;
+            rest = rw (← G.rest, ← from_atom, v.1) (same_end (λ u. v.0 ∷ u) (atoms_at bytes end limit (count - (read + 1)) q));
             inside = omega arith;
           }

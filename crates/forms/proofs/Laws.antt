@@ -1,6 +1,6 @@
 -- Laws of the coefficient area: one for each way out. Assumes nothing.
-use mathlib.Core.Path.{◌≡◌, refl, ap, subst, ◌∙◌}
-use mathlib.Core.Logic.{◌≢◌, ◌⊎◌, ⊎_elim}
+use mathlib.Core.Path.{◌≡◌, refl, ap, ◌∙◌}
+use mathlib.Core.Logic.{◌≢◌}
 use mathlib.Core.Bool.{Bool, true, not, ◌&&◌}
 use mathlib.Core.List.{List}
 use Prim.Native.Nat.{ℕ, suc, ◌+◌, ◌^◌, ◌≤◌, ◌<◌, max}
@@ -10,18 +10,17 @@ use native.Mathlib.Decide.{ℕ_discrete}
 use lib.ListN.{length, get_or, set, length-set}
 use lib.Seq.{get_or-set_same, get_or-set_other}
 use lib.Dec.{eqb}
-use denote.Enum.Declared.{tag_of as variant, declared}
 use Rattle.model.specs.Term.{Term, constant, variable, sum, difference}
 use Rattle.model.specs.Linear.{variable_bound}
 use Rattle.model.proofs.Terms.{and_left, and_right}
 use Rattle.workspace.specs.Layout.{table_base, Same, constant_word, area_words}
-use Rattle.nodes.specs.Table.{place, view_of, build, term_at, plain, Formed}
-use Rattle.nodes.specs.declared.Node.{Node}
-use Rattle.nodes.specs.declared.Node.TheVariants.{Constant, Variable, Sum, Difference, Mask, Shift}
-use Rattle.nodes.specs.contracts.Node.{enum as node-enum}
+use Rattle.nodes.specs.Table.{place, view_of, term_at, plain, Formed}
+use Rattle.nodes.specs.declared.Node.TheVariants.{Constant, Variable, Pair, Shift}
+use Rattle.nodes.specs.declared.Operation.{Operation}
+use Rattle.nodes.specs.declared.Operation.TheVariants.{Sum, Difference, Mask}
 use Rattle.workspace.proofs.Frames.{same_refl, same_within, same_trans}
 use Rattle.nodes.proofs.Table.{node_order, node_built, part, term_same, formed_same}
-use Rattle.forms.specs.Area.{form_at, signed, Bounded, Tree, Accumulated, Cleared, all_zero, Taken, Emptied}
+use Rattle.forms.specs.Area.{form_at, signed, Bounded, Tree, Accumulated, Cleared, all_zero, Taken}
 use Rattle.forms.proofs.Forms.{signed_zero, constant_here, constant_else, variable_here, variable_else, word_sum, word_difference, clash}
 
 -- ---- words that keep the area, or the table
@@ -58,11 +57,8 @@ module _ {ws : List ℕ} {i t l r b : ℕ} (e : i ≡ t) (p : Parts ws i b l r) 
   pub second : {us : List ℕ} {n : Bool} {q : Term} → Accumulated ws us n q → (r < t) × Tree us r b
   second a = (omega (arith, p.order), tree_kept a p.right)
 
--- node i as an arm of `match view(..)` knows it
-abbrev shape : Node → ℕ
-shape n = variant (declared node-enum) n
-
-module _ {ws : List ℕ} {i b : ℕ} (h : Tree ws i b) {m : Node} (v : m ≡ view_of ws i) where
+-- as an arm of `match view(..)` knows it
+module _ {ws : List ℕ} {i b : ℕ} (h : Tree ws i b) where
   parts : {l r : ℕ} → (l < i) × (r < i) → max (variable_bound (term_at ws l)) (variable_bound (term_at ws r)) ≤ b → (plain (term_at ws l) && plain (term_at ws r)) ≡ true → Parts ws i b l r
   parts {l} {r} o k p = record {
     order = o;
@@ -70,40 +66,30 @@ module _ {ws : List ℕ} {i b : ℕ} (h : Tree ws i b) {m : Node} (v : m ≡ vie
     right = record { formed = part h.formed o.1; within = omega arith; plain_term = and_right (plain (term_at ws l)) (plain (term_at ws r)) p };
   }
 
-  pub sum_parts : {l r : ℕ} → m ≡ Sum l r → Parts ws i b l r
+  -- of a sum or a difference: no mask stands here
+  pub pair_parts : (o : Operation) {l r : ℕ} → Pair o l r ≡ view_of ws i → Parts ws i b l r
   unfolding variable_bound plain
-  sum_parts a = parts (node_order h.formed v a) (rw (node_built h.formed v a) at h.within) (rw (node_built h.formed v a) at h.plain_term)
+  pair_parts Sum e = parts (node_order h.formed.shaped e) (rw (node_built h.formed.shaped e) at h.within) (rw (node_built h.formed.shaped e) at h.plain_term)
+  pair_parts Difference e = parts (node_order h.formed.shaped e) (rw (node_built h.formed.shaped e) at h.within) (rw (node_built h.formed.shaped e) at h.plain_term)
+  pair_parts Mask e = clash refl (rw (node_built h.formed.shaped e) at h.plain_term)
 
-  pub difference_parts : {l r : ℕ} → m ≡ Difference l r → Parts ws i b l r
-  unfolding variable_bound plain
-  difference_parts a = parts (node_order h.formed v a) (rw (node_built h.formed v a) at h.within) (rw (node_built h.formed v a) at h.plain_term)
-
-  -- no mask and no shift
-  no_opaque : (n : Node) → (shape n ≡ 4) ⊎ (shape n ≡ 5) → plain (build (term_at ws) n) ≡ true → ⊥
+  pub no_mask : {l r : ℕ} {A : Type 0} → Pair Mask l r ≡ view_of ws i → A
   unfolding plain
-  no_opaque (Constant c) o p = ⊎_elim (λ e. omega arith) (λ e. omega arith) o
-  no_opaque (Variable x) o p = ⊎_elim (λ e. omega arith) (λ e. omega arith) o
-  no_opaque (Sum l r) o p = ⊎_elim (λ e. omega arith) (λ e. omega arith) o
-  no_opaque (Difference l r) o p = ⊎_elim (λ e. omega arith) (λ e. omega arith) o
-  no_opaque (Mask l r) o p = clash refl p
-  no_opaque (Shift c l) o p = clash refl p
+  no_mask e = clash refl (rw (node_built h.formed.shaped e) at h.plain_term)
 
-  pub not_opaque : {A : Type 0} → (shape m ≡ 4) ⊎ (shape m ≡ 5) → A
-  not_opaque o = absurd (no_opaque m o (rw (node_built h.formed v refl) at h.plain_term))
+  pub no_shift : {count part : ℕ} {A : Type 0} → Shift count part ≡ view_of ws i → A
+  unfolding plain
+  no_shift e = clash refl (rw (node_built h.formed.shaped e) at h.plain_term)
 
-  pub variable_within : {x : ℕ} → m ≡ Variable x → x < b
+  pub variable_within : {x : ℕ} → Variable x ≡ view_of ws i → x < b
   unfolding variable_bound
-  variable_within a = let k = rw (node_built h.formed v a) at h.within in omega arith
-
--- ---- a word changed by x
-pub change_as : {n m : Bool} (ws : List ℕ) (p x : ℕ) {v : ℕ} → n ≡ m → v ≡ signed m (get_or ws p 0) x → set ws p v ≡ set ws p (signed n (get_or ws p 0) x)
-change_as ws p x d e = rw (d, e)
+  variable_within e = let k = rw (node_built h.formed.shaped e) at h.within in omega arith
 
 -- ---- accumulated
 -- where word p alone changes, by x
 changed : {ws us : List ℕ} {n : Bool} (t : Term) (p x : ℕ) → p < area_words → area_words ≤ length ws
     → us ≡ set ws p (signed n (get_or ws p 0) x)
-    → ((k : ℕ) → get_or ws k 0 < 2 ^ 32)
+    → ((k : ℕ) → get_or us k 0 < 2 ^ 32)
     → form_at p t ≡ x
     → ((k : ℕ) → k < area_words → k ≢ p → form_at k t ≡ 0)
     → Accumulated ws us n t
@@ -115,7 +101,9 @@ changed {ws} {us} {n} t p x h room e words here else = record {
   where
     go : (k : ℕ) → k < area_words → Dec (k ≡ p) → get_or (set ws p (signed n (get_or ws p 0) x)) k 0 ≡ signed n (get_or ws k 0) (form_at k t)
     go k l (yes m) = rw (m, here) (get_or-set_same ws p _ 0 (omega arith))
-    go k l (no m) = rw (else k l m) (get_or-set_other ws p k _ 0 m ∙ signed_zero n (get_or ws k 0) (words k))
+    go k l (no m) =
+        let kept : get_or us k 0 ≡ get_or ws k 0 = rw e (get_or-set_other ws p k _ 0 m) in
+        rw (else k l m) (get_or-set_other ws p k _ 0 m ∙ signed_zero n (get_or ws k 0) (rw kept at (words k)))
 
 -- where one term's form is accumulated after another's
 pub above_both : {ws us vs : List ℕ} {m o : Bool} {p q : Term} → Accumulated ws us m p → Accumulated us vs o q → Same area_words (length ws) ws vs
@@ -130,28 +118,28 @@ accumulated_both n t a b w = record {
   long = b.long ∙ a.long;
 }
 
-module _ {ws us : List ℕ} {i b : ℕ} {n : Bool} (h : Tree ws i b) {m : Node} (v : m ≡ view_of ws i) where
-  module _ (words : (k : ℕ) → get_or ws k 0 < 2 ^ 32) where
-    pub accumulated_constant : {c : ℕ} → m ≡ Constant c → c < 2 ^ 32 → us ≡ set ws constant_word (signed n (get_or ws constant_word 0) c) → Accumulated ws us n (term_at ws i)
-    accumulated_constant {c} a l s =
-        rw (node_built h.formed v a)
-        (changed (constant c) constant_word c (omega arith) (omega (arith, h.formed.shaped.words, h.formed.shaped.fits)) s words (constant_here c l) (λ k d e. constant_else k c d e))
+module _ {ws us : List ℕ} {i b : ℕ} {n : Bool} (h : Tree ws i b) where
+  module _ (words : (k : ℕ) → get_or us k 0 < 2 ^ 32) where
+    pub accumulated_constant : {c : ℕ} → Constant c ≡ view_of ws i → c < 2 ^ 32 → us ≡ set ws constant_word (signed n (get_or ws constant_word 0) c) → Accumulated ws us n (term_at ws i)
+    accumulated_constant {c} e l s =
+        rw (node_built h.formed.shaped e)
+        (changed (constant c) constant_word c (omega arith) (omega (arith, h.formed.shaped.words, h.formed.shaped.fits)) s words (constant_here c l) (λ k d f. constant_else k c d f))
 
-    pub accumulated_variable : {x p : ℕ} → m ≡ Variable x → x < constant_word → p ≡ x → us ≡ set ws p (signed n (get_or ws p 0) 1) → Accumulated ws us n (term_at ws i)
-    accumulated_variable {x} {p} a l d s =
-        rw (node_built h.formed v a, ← d)
-        (changed (variable p) p 1 (omega arith) (omega (arith, h.formed.shaped.words, h.formed.shaped.fits)) s words (variable_here p (omega arith)) (λ k e f. variable_else k p f))
+    pub accumulated_variable : {x : ℕ} → Variable x ≡ view_of ws i → x < constant_word → us ≡ set ws x (signed n (get_or ws x 0) 1) → Accumulated ws us n (term_at ws i)
+    accumulated_variable {x} e l s =
+        rw (node_built h.formed.shaped e)
+        (changed (variable x) x 1 (omega arith) (omega (arith, h.formed.shaped.words, h.formed.shaped.fits)) s words (variable_here x (omega arith)) (λ k d f. variable_else k x f))
 
   module _ {vs : List ℕ} {l r : ℕ} (f : Accumulated ws us n (term_at ws l)) where
-    pub accumulated_sum : m ≡ Sum l r → Accumulated us vs n (term_at us r) → Accumulated ws vs n (term_at ws i)
-    accumulated_sum a g =
-        rw (node_built h.formed v a)
-        (accumulated_both n (sum (term_at ws l) (term_at ws r)) f g (λ k d. word_sum k (term_at ws l) (term_at ws r) n (get_or ws k 0) (f.area k d) (rw (term_kept f (sum_parts h v a).right.formed) at (g.area k d))))
+    pub accumulated_sum : Pair Sum l r ≡ view_of ws i → Accumulated us vs n (term_at us r) → Accumulated ws vs n (term_at ws i)
+    accumulated_sum e g =
+        rw (node_built h.formed.shaped e)
+        (accumulated_both n (sum (term_at ws l) (term_at ws r)) f g (λ k d. word_sum k (term_at ws l) (term_at ws r) n (get_or ws k 0) (f.area k d) (rw (term_kept f (pair_parts h Sum e).right.formed) at (g.area k d))))
 
-    pub accumulated_difference : m ≡ Difference l r → Accumulated us vs (not n) (term_at us r) → Accumulated ws vs n (term_at ws i)
-    accumulated_difference a g =
-        rw (node_built h.formed v a)
-        (accumulated_both n (difference (term_at ws l) (term_at ws r)) f g (λ k d. word_difference k (term_at ws l) (term_at ws r) n (get_or ws k 0) (f.area k d) (rw (term_kept f (difference_parts h v a).right.formed) at (g.area k d))))
+    pub accumulated_difference : Pair Difference l r ≡ view_of ws i → Accumulated us vs (not n) (term_at us r) → Accumulated ws vs n (term_at ws i)
+    accumulated_difference e g =
+        rw (node_built h.formed.shaped e)
+        (accumulated_both n (difference (term_at ws l) (term_at ws r)) f g (λ k d. word_difference k (term_at ws l) (term_at ws r) n (get_or ws k 0) (f.area k d) (rw (term_kept f (pair_parts h Difference e).right.formed) at (g.area k d))))
 
 -- ---- emptied
 pub taken_none : (ws : List ℕ) → Taken ws ws 0 true
@@ -170,15 +158,3 @@ taken_more {ws} {us} {vs} {n} {x} {r} t h e s = record {
     go : (k : ℕ) → k < n + 1 → Dec (k ≡ n) → get_or (set us n 0) k 0 ≡ 0
     go k l (yes m) = rw m (get_or-set_same us n 0 0 h)
     go k l (no m) = get_or-set_other us n k 0 0 m ∙ t.zeros k (omega arith)
-
-pub taken_all : {ws us : List ℕ} {v n : ℕ} {r : Bool} → Taken ws us v r → v ≤ n → n ≤ v → Taken ws us n r
-taken_all {ws} {us} {v} {n} {r} t a b = let e : v ≡ n = omega arith in subst (λ m. Taken ws us m r) e t
-
-pub emptied : {ws us vs : List ℕ} {n x : ℕ} {r : Bool} → n ≤ constant_word → area_words ≤ length ws → Taken ws us n r → x ≡ get_or us constant_word 0 → vs ≡ set us constant_word 0 → Emptied ws vs n (eqb x 0 && r)
-emptied {ws} {us} {vs} {n} few room t e s = record {
-  is = rw (e, t.is, t.above.word constant_word few (omega arith));
-  zeros = λ k l. rw s (get_or-set_other us constant_word k 0 0 (omega arith) ∙ t.zeros k l);
-  constant = rw s (get_or-set_same us constant_word 0 0 (omega (arith, t.long)));
-  others = λ k l m o. rw s (get_or-set_other us constant_word k 0 0 o ∙ t.above.word k l m);
-  long = ap length s ∙ simp length-set t.long;
-}

@@ -7,7 +7,8 @@ ghost use Rattle.workspace.specs.Layout.{constant_word, area_words};
 ghost use Rattle.nodes.specs.Table.{term_at};
 ghost use Rattle.forms.specs.Area.{signed, Tree, Accumulated, Taken, Emptied};
 
-use nodes::Node;
+use nodes::{Node, Operation};
+use std::mem;
 use workspace::CONSTANT;
 
 // Adds x to a word, or subtracts it.
@@ -29,27 +30,17 @@ pub fn accumulate(ws: &mut [u32], i: usize, negative: bool)
 {
     match nodes::view(ws, i) {
         Node::Constant(n) => change(ws, CONSTANT, n, negative),
-        Node::Variable(v) => change(ws, fields::wide(v), 1, negative),
-        Node::Sum(l, r) => {
-            accumulate(ws, l, negative);
-            accumulate(ws, r, negative);
+        Node::Variable(v) => change(ws, v as usize, 1, negative),
+        Node::Pair(operation, left, right) => {
+            accumulate(ws, left, negative);
+            match operation {
+                Operation::Sum => accumulate(ws, right, negative),
+                Operation::Difference => accumulate(ws, right, !negative),
+                Operation::Mask => {}
+            }
         }
-        Node::Difference(l, r) => {
-            accumulate(ws, l, negative);
-            accumulate(ws, r, !negative);
-        }
-        _ => {}
+        Node::Shift(_, _) => {}
     }
-}
-
-// A word, which is zero afterwards.
-fn take(ws: &mut [u32], at: usize) -> u32
-    requires { at < length ws.old }
-    ensures { (result ≡ get_or ws.old at 0) × (ws.new ≡ set ws.old at 0) }
-{
-    let word = ws[at];
-    ws[at] = 0;
-    word
 }
 
 // Whether the coefficients of the first variables are all zero; they are zero afterwards.
@@ -58,20 +49,19 @@ fn empty_coefficients(ws: &mut [u32], variables: usize) -> bool
     ensures { Taken ws.old ws.new variables result }
 {
     let mut zero = true;
-    let mut v = 0;
-    while v < variables {
-        zero = zero & (take(ws, v) == 0);
-        v += 1;
+    for v in 0..variables {
+        zero &= mem::take(&mut ws[v]) == 0;
     }
     zero
 }
 
 // Whether the constant and the coefficients of the first variables are all zero; they are zero afterwards.
 pub fn empty(ws: &mut [u32], variables: usize) -> bool
-    requires { (variables ≤ constant_word) × (area_words ≤ length ws.old) }
+    requires few { variables ≤ constant_word }
+    requires room { area_words ≤ length ws.old }
     ensures { Emptied ws.old ws.new variables result }
 {
     let coefficients = empty_coefficients(ws, variables);
-    let constant = take(ws, CONSTANT) == 0;
+    let constant = mem::take(&mut ws[CONSTANT]) == 0;
     constant & coefficients
 }

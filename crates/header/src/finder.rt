@@ -2,7 +2,6 @@
 ghost use Rattle.std.specs.Prelude.{◌≡◌, ◌+◌};
 ghost use Rattle.model.specs.Package.{proof_section, finder_answer};
 
-use crate::HeaderAnswer;
 use model::Finding;
 
 // The proof section of a package, as that part of the caller's own bytes; an empty part where check 7 refuses.
@@ -10,13 +9,9 @@ pub fn find_proof(bytes: &[u8]) -> &[u8]
     ensures contents { result.now ≡ (proof_section bytes.now).contents }
     ensures position { (result.ref_ptr.0 ≡ bytes.entry.ref_ptr.0) × (result.ref_ptr.1 ≡ bytes.entry.ref_ptr.1 + (proof_section bytes.now).start) }
 {
-    let answer = crate::read_header(bytes);
-    match answer {
-        HeaderAnswer::Passed(header) => {
-            let start = crate::proof_start(header);
-            &bytes[start..]
-        }
-        HeaderAnswer::Refused(_) => &bytes[..0],
+    match crate::read_package(bytes) {
+        Ok(found) => &bytes[found.proof_start()..],
+        Err(_) => &bytes[..0],
     }
 }
 
@@ -24,13 +19,12 @@ pub fn find_proof(bytes: &[u8]) -> &[u8]
 pub fn find_answer(bytes: &[u8]) -> Finding
     ensures { result ≡ finder_answer bytes.now }
 {
-    let answer = crate::read_header(bytes);
-    match answer {
-        HeaderAnswer::Passed(_) => Finding {
+    match crate::read_header(bytes) {
+        Ok(_) => Finding {
             number: 0,
             place: 0,
         },
-        HeaderAnswer::Refused(refusal) => Finding {
+        Err(refusal) => Finding {
             number: refusals::number(refusal),
             place: refusals::place(refusal),
         },

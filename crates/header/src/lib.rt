@@ -2,45 +2,40 @@
 #![tactic(auto)]
 
 pub mod finder;
+pub mod package;
 
-ghost use Rattle.std.specs.Prelude.{◌≡◌, ◌≤◌};
-ghost use Rattle.model.specs.Package.{most_bytes, proof_start};
-ghost use Rattle.header.specs.Headers.{HeaderRead};
+ghost use Rattle.std.specs.Prelude.{◌≡◌, IfOk};
+ghost use Rattle.model.specs.Package.{read_header};
+ghost use Rattle.header.specs.Headers.{Fits};
+ghost use Rattle.header.specs.Packages.{headed};
 
 use limits::{MOST_ANNOTATIONS, MOST_BYTES, MOST_INSTRUCTIONS};
 use model::{Header, Refusal};
-
-#[derive(Clone, Copy)]
-pub enum HeaderAnswer {
-    Passed(Header),
-    Refused(Refusal),
-}
+use package::Package;
 
 // The header of a package, or what check 7 refuses.
-pub fn read_header(bytes: &[u8]) -> HeaderAnswer
-    ensures { HeaderRead bytes.now result }
+pub fn read_header(bytes: &[u8]) -> Result<Header, Refusal>
+    ensures is { result ≡ read_header bytes.now }
+    ensures fits { IfOk result (λ h. Fits bytes.now h) }
 {
     let size = bytes.len();
     if size < 12 {
-        return HeaderAnswer::Refused(Refusal::BadHeader(size));
+        return Err(Refusal::BadHeader(size));
     }
     let instructions = fields::half(bytes, 0);
     if !((1 <= instructions) & (instructions <= MOST_INSTRUCTIONS)) {
-        return HeaderAnswer::Refused(Refusal::BadHeader(0));
+        return Err(Refusal::BadHeader(0));
     }
     let annotations = fields::half(bytes, 2);
     if MOST_ANNOTATIONS < annotations {
-        return HeaderAnswer::Refused(Refusal::BadHeader(2));
+        return Err(Refusal::BadHeader(2));
     }
-    let section = fields::wide(fields::word(bytes, 4));
-    let proof = fields::wide(fields::word(bytes, 8));
-    if MOST_BYTES < size {
-        return HeaderAnswer::Refused(Refusal::BadHeader(MOST_BYTES));
+    let section = fields::word(bytes, 4) as usize;
+    let proof = fields::word(bytes, 8) as usize;
+    if !((size == 12 + 8 * instructions + section + proof) & (size <= MOST_BYTES)) {
+        return Err(Refusal::BadHeader(size.min(MOST_BYTES)));
     }
-    if size != 12 + 8 * instructions + section + proof {
-        return HeaderAnswer::Refused(Refusal::BadHeader(size));
-    }
-    HeaderAnswer::Passed(Header {
+    Ok(Header {
         instructions,
         annotations,
         section,
@@ -48,10 +43,11 @@ pub fn read_header(bytes: &[u8]) -> HeaderAnswer
     })
 }
 
-// Where the proof starts in a package with this header.
-pub fn proof_start(header: Header) -> usize
-    requires { proof_start header ≤ most_bytes }
-    ensures { result ≡ proof_start header }
+// The package that stands in these bytes, or what check 7 refuses.
+pub fn read_package(bytes: &[u8]) -> Result<Package, Refusal>
+    ensures is { headed result ≡ read_header bytes.now }
+    ensures whole { IfOk result (λ p. p.bytes.now ≡ bytes.now) }
 {
-    12 + 8 * header.instructions + header.section
+    let header = read_header(bytes)?;
+    Ok(Package { bytes, header })
 }

@@ -1,11 +1,8 @@
 -- What the words of an answer say. Assumes nothing.
 use Prim.Native.Nat.{ℕ}
 use mathlib.Core.Path.{◌≡◌, ap, ◌∙◌}
-use mathlib.Core.List.{List, [], ◌∷◌, append-nil}
-use native.Mathlib.Nat.{zero-add}
-use native.Mathlib.Omega.{arith}
-use lib.ListN.{length, set}
-use lib.Seq.{sets, sets-eq, drop-length}
+use mathlib.Core.List.{List, [], ◌∷◌}
+use lib.ListN.{length}
 use Rattle.model.specs.Package.{proof_section, finder_answer}
 use Rattle.model.specs.Runner.{Run}
 use Rattle.model.specs.declared.Finding.{Finding}
@@ -14,14 +11,6 @@ use Rattle.model.specs.declared.Verdict.{Verdict}
 use Rattle.model.specs.Verdict.{check_of, workspace_after}
 use Rattle.model.specs.Property.{Safe}
 use Rattle.host_interface.specs.Exported.{CheckExported, RunExported, FindExported}
-
--- every word of a list, written from the front
-written : (words list : List ℕ) → length list ≡ length words → sets list 0 words ≡ words
-written words list h =
-    sets-eq words list 0 (omega arith) ∙ rw (zero-add (length words), ← h, drop-length list) (append-nil words)
-
-pub three : (list : List ℕ) (a b c : ℕ) → length list ≡ 3 → set (set (set list 0 a) 1 b) 2 c ≡ a ∷ b ∷ c ∷ []
-three list a b c h = written (a ∷ b ∷ c ∷ []) list h
 
 pub check_left : (before policy routine after answer : List ℕ) (v : Verdict)
     → v ≡ check_of (length before) policy routine → after ≡ workspace_after before → (v.number ≡ 0 → Safe policy routine)

@@ -2,22 +2,10 @@
 // array of the caller's.
 #![tactic(auto)]
 
-ghost use Rattle.std.specs.Prelude.{◌≡◌, [], ◌∷◌, length};
+ghost use Rattle.std.specs.Prelude.{◌≡◌};
 ghost use Rattle.model.specs.Package.{proof_section};
 ghost use Rattle.model.specs.Runner.{run_of};
 ghost use Rattle.host_interface.specs.Exported.{CheckExported, RunExported, FindExported};
-
-use header::HeaderAnswer;
-
-// Three words, at the start of a slice.
-fn put_three(words: &mut [u64], a: u64, b: u64, c: u64)
-    requires { length words.old ≡ 3 }
-    ensures { words.new ≡ a ∷ b ∷ c ∷ [] }
-{
-    words[0] = a;
-    words[1] = b;
-    words[2] = c;
-}
 
 // loader::check: number, place and goals go into `answer`.
 #[unsafe(no_mangle)]
@@ -30,12 +18,11 @@ pub extern "C" fn pcc_check(
     ensures { CheckExported workspace.old policy.now routine.now workspace.new answer.new }
 {
     let verdict = loader::check(workspace, policy, routine);
-    put_three(
-        answer,
+    *answer = [
         verdict.number as u64,
         verdict.place as u64,
         verdict.goals as u64,
-    );
+    ];
 }
 
 // loader::run: number, place and steps go into `answer`.
@@ -51,22 +38,20 @@ pub extern "C" fn pcc_run(
     ensures { RunExported (run_of policy.now routine.now registers.old memory.old budget) registers.new memory.new answer.new }
 {
     let outcome = loader::run(policy, routine, registers, memory, budget);
-    put_three(
-        answer,
+    *answer = [
         outcome.number as u64,
         outcome.place as u64,
         outcome.steps as u64,
-    );
+    ];
 }
 
 // Where the proof section starts in a package: 0 where check 7 refuses it.
 fn start(bytes: &[u8]) -> usize
     ensures { result ≡ (proof_section bytes.now).start }
 {
-    let answer = header::read_header(bytes);
-    match answer {
-        HeaderAnswer::Passed(h) => header::proof_start(h),
-        HeaderAnswer::Refused(_) => 0,
+    match header::read_package(bytes) {
+        Ok(routine) => routine.proof_start(),
+        Err(_) => 0,
     }
 }
 
@@ -76,11 +61,7 @@ pub extern "C" fn pcc_find_proof(routine: &[u8], answer: &mut [u64; 3]) -> usize
     ensures { FindExported routine.now answer.new result }
 {
     let finding = loader::find_answer(routine);
-    put_three(
-        answer,
-        finding.number as u64,
-        finding.place as u64,
-        start(routine) as u64,
-    );
+    let start = start(routine);
+    *answer = [finding.number as u64, finding.place as u64, start as u64];
     loader::find_proof(routine).len()
 }

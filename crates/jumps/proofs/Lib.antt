@@ -1,4 +1,2 @@
 pub mod Walking
-pub mod Standing
 pub mod Jumping
-pub mod RegionLaws

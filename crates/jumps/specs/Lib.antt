@@ -1,3 +1,1 @@
-pub mod Setting
-pub mod Standing
 pub mod Jumps

@@ -1,140 +1,78 @@
 // What a jump, a branch or a return does to a path of a block, and arrivals at annotations.
 #![tactic(auto)]
 
-pub mod regions;
-
-ghost use Rattle.std.specs.Prelude.{◌≡◌, ℕ, ◌≤◌, ◌<◌, length};
-ghost use Rattle.model.specs.Result.{value};
-ghost use Rattle.model.specs.Expression.{register_count, atoms_at};
+ghost use Rattle.std.specs.Prelude.{◌≡◌, ◌≤◌, ◌<◌};
+ghost use Rattle.model.specs.Expression.{register_count};
 ghost use Rattle.model.specs.Goals.{jump, path_to, ends, returning};
 ghost use Rattle.model.specs.Package.{most_instructions};
 ghost use Rattle.nodes.specs.Table.{term_at};
-ghost use Rattle.claims.specs.Regions.{regions_of, RegionWords};
 ghost use Rattle.goals.specs.Judging.{Reached};
 ghost use Rattle.paths.specs.Walking.{path_of, NodeIn};
 ghost use Rattle.goals.specs.Room.{Going, goal_room};
-ghost use Rattle.moves.specs.Moves.{RoomFor, Moves};
-ghost use Rattle.jumps.specs.Setting.{Tables, TablesStand};
-ghost use Rattle.jumps.specs.Jumps.{ended_as, opposite_of, Branches, Arrives};
+ghost use Rattle.moves.specs.Moves.{RoomFor, MovesIn};
+ghost use Rattle.jumps.specs.Jumps.{opposite_of, Branches, Arrives};
 
 use arrivals;
 use assumptions::Assumption;
-use goals::{Judged, Progress};
-use model::{Comparison, Header, Refusal};
-use moves::{Moved, MovedAnswer};
+use goals::Progress;
+use model::{Comparison, Refusal};
+use moves::Moved;
 use paths::Path;
-use policy::Policy;
+use refusals::Refused;
+use setting::Setting;
 use targets::search;
-use targets::search::Found;
 
-// What stays fixed: the policy, the package's header, and where the proof starts.
-#[derive(Clone, Copy)]
-pub struct Setting {
-    pub policy: Policy,
-    pub header: Header,
-    pub end: usize,
-}
-
-// What comes of a path's arrival at an index: its goals, if the index is annotated.
-#[derive(Clone, Copy)]
-pub enum Arrived {
-    At(Judged),
-    Nowhere,
-}
-
-// The goals of a path's arrival at its counter, if that is annotated.
+// The goals of a path's arrival at its counter, if that is annotated: the progress after them, or the refusal and the goals derived by then.
 pub fn arrive(
-    bytes: &[u8],
-    regions: &[u32],
-    indexes: &[u32],
-    places: &[u32],
-    setting: Setting,
+    setting: &Setting,
     ws: &mut [u32],
     credit: usize,
     path: Path,
     progress: Progress,
-) -> Arrived
-    requires tables { Tables bytes.now regions.now indexes.now places.now setting }
-    requires going { Going ws.old regions.now bytes.now setting.policy.count goal_room path progress }
-    requires node_in { NodeIn ws.old path credit }
-    requires counter_le_most_instructions { path.counter ≤ most_instructions }
-    ensures { Arrives ws.old ws.new bytes.now (TablesStand bytes.now regions.now places.now setting) (term_at ws.old credit) path progress result }
+) -> Result<Option<Progress>, Refused>
+    requires going { Going ws.old setting.now goal_room path progress }
+    requires credit_in { NodeIn ws.old path credit }
+    requires counter_in { path.counter ≤ most_instructions }
+    ensures { Arrives ws.old ws.new setting.now (term_at ws.old credit) path progress result }
 {
-    let header = setting.header;
-    let found = search::position(indexes, header.annotations, path.counter as u32);
-    let Found::At(k) = found else {
-        return Arrived::Nowhere;
+    let Some(k) = search::position(setting.annotations, path.counter) else {
+        return Ok(None);
     };
-    let at = fields::wide(places[k]);
-    let policy = setting.policy;
-    let judged = arrivals::arrival(
-        bytes,
-        setting.end,
-        at,
-        regions,
-        policy.count,
-        ws,
-        path,
-        credit,
-        progress,
-    );
-    Arrived::At(judged)
-}
-
-// What comes of a path's last goals, as its end.
-fn ended(path: Path, judged: Judged) -> Moved
-    ensures { result ≡ record { path = path; answer = ended_as judged } }
-{
-    match judged {
-        Judged::Next(progress) => Moved {
-            path,
-            answer: MovedAnswer::Ended(progress),
-        },
-        Judged::Refused(refusal, derived) => Moved {
-            path,
-            answer: MovedAnswer::Refused(refusal, derived),
-        },
-    }
+    let at = setting.annotations[k].at;
+    let after = arrivals::arrival(setting, at, ws, path, credit, progress)?;
+    Ok(Some(after))
 }
 
 // A jump whose target is not annotated; check 12 has seen that there is none.
-fn unannotated(path: Path, progress: Progress) -> Moved
-    ensures { result ≡ record { path = path; answer = MovedAnswer.Refused (Refusal.Unannotated path.counter) progress.goals } }
+fn unannotated(path: Path, progress: Progress) -> Refused
+    ensures { result ≡ record { refusal = Refusal.Unannotated path.counter; goals = progress.goals } }
 {
-    Moved {
-        path,
-        answer: MovedAnswer::Refused(Refusal::Unannotated(path.counter), progress.goals),
+    Refused {
+        refusal: Refusal::Unannotated(path.counter),
+        goals: progress.goals,
     }
 }
 
 // jump to a target
 pub fn jump_to(
-    bytes: &[u8],
-    regions: &[u32],
-    indexes: &[u32],
-    places: &[u32],
-    setting: Setting,
+    setting: &Setting,
     ws: &mut [u32],
     credit: usize,
     path: Path,
     target: u32,
     progress: Progress,
-) -> Moved
-    requires tables { Tables bytes.now regions.now indexes.now places.now setting }
+) -> Result<Moved, Refused>
     requires room_for { RoomFor ws.old path 1 }
-    requires node_in { NodeIn ws.old path credit }
-    requires reached { Reached bytes.now progress }
-    requires target_le_most_instructions { target ≤ most_instructions }
-    ensures { Moves ws.old ws.new bytes.now (TablesStand bytes.now regions.now places.now setting) (term_at ws.old credit) (λ policy routine. jump policy routine (term_at ws.old credit) (path_of ws.old path) (path_to (path_of ws.old path) target) ends) path progress result }
+    requires credit_in { NodeIn ws.old path credit }
+    requires reached { Reached setting.now.routine.bytes.now progress }
+    requires target_in { target ≤ most_instructions }
+    ensures { MovesIn ws.old ws.new setting.now (term_at ws.old credit) (λ policy routine. jump policy routine (term_at ws.old credit) (path_of ws.old path) (path_to (path_of ws.old path) target) ends) path progress result }
 {
-    let there = paths::stepped(path, fields::wide(target));
-    let arrived = arrive(
-        bytes, regions, indexes, places, setting, ws, credit, there, progress,
-    );
-    match arrived {
-        Arrived::At(judged) => ended(path, judged),
-        Arrived::Nowhere => unannotated(path, progress),
-    }
+    let there = path.stepped(target as usize);
+    let Some(after) = arrive(setting, ws, credit, there, progress)? else {
+        return Err(unannotated(path, progress));
+    };
+    Ok(Moved::Ended(after))
 }
 
 // The comparison that holds where another does not.
@@ -167,11 +105,7 @@ fn opposite(kind: Comparison, left: usize, right: usize) -> Assumption
 
 // jump to a target if a comparison of registers a and b holds: the goals of the taken edge, where the condition is assumed, and then on with the opposite
 pub fn branch_to(
-    bytes: &[u8],
-    regions: &[u32],
-    indexes: &[u32],
-    places: &[u32],
-    setting: Setting,
+    setting: &Setting,
     ws: &mut [u32],
     credit: usize,
     path: Path,
@@ -180,59 +114,39 @@ pub fn branch_to(
     b: u8,
     target: u32,
     progress: Progress,
-) -> Moved
-    requires tables { Tables bytes.now regions.now indexes.now places.now setting }
+) -> Result<Moved, Refused>
     requires room_for { RoomFor ws.old path 1 }
-    requires node_in { NodeIn ws.old path credit }
-    requires reached { Reached bytes.now progress }
-    requires target_le_most_instructions { target ≤ most_instructions }
-    requires a_lt_register_count { (a < register_count) × (b < register_count) }
-    ensures { Branches ws.old ws.new bytes.now (TablesStand bytes.now regions.now places.now setting) (term_at ws.old credit) path kind a b target progress result }
+    requires credit_in { NodeIn ws.old path credit }
+    requires reached { Reached setting.now.routine.bytes.now progress }
+    requires target_in { target ≤ most_instructions }
+    requires registers { (a < register_count) × (b < register_count) }
+    ensures { Branches ws.old ws.new setting.now (term_at ws.old credit) path kind a b target progress result }
 {
-    let left = paths::node(path, a);
-    let right = paths::node(path, b);
-    let stepped = paths::stepped(path, fields::wide(target));
-    let there = blocks::assuming(ws, stepped, kind, left, right);
-    let arrived = arrive(
-        bytes, regions, indexes, places, setting, ws, credit, there, progress,
-    );
-    let Arrived::At(judged) = arrived else {
-        return unannotated(path, progress);
+    let left = path.node(a);
+    let right = path.node(b);
+    let stepped = path.stepped(target as usize);
+    let there = blocks::assuming(ws, stepped, Assumption { kind, left, right });
+    let Some(after) = arrive(setting, ws, credit, there, progress)? else {
+        return Err(unannotated(path, progress));
     };
-    let Judged::Next(after) = judged else {
-        return ended(path, judged);
-    };
-    let next = paths::stepped(path, path.counter + 1);
-    let opposite = opposite(kind, left, right);
-    let other = opposite.kind;
-    let on = blocks::assuming(ws, next, other, opposite.left, opposite.right);
-    Moved {
-        path: on,
-        answer: MovedAnswer::On(after),
-    }
+    let next = path.stepped(path.counter + 1);
+    let on = blocks::assuming(ws, next, opposite(kind, left, right));
+    Ok(Moved::On(on, after))
 }
 
-// return: the postcondition's atoms, `number` of which stand at `at` in the policy, and the credit
+// return: the postcondition's atoms, and the credit
 pub fn return_from(
-    conditions: &[u8],
-    at: usize,
-    number: usize,
-    bytes: &[u8],
-    regions: &[u32],
-    count: usize,
+    setting: &Setting,
     ws: &mut [u32],
     credit: usize,
     path: Path,
     progress: Progress,
-) -> Moved
-    requires region_words { RegionWords regions.now count }
+) -> Result<Moved, Refused>
     requires room_for { RoomFor ws.old path 1 }
-    requires node_in { NodeIn ws.old path credit }
-    requires reached { Reached bytes.now progress }
-    ensures { Moves ws.old ws.new bytes.now (λ policy routine. (policy.regions ≡ regions_of regions.now count) × ((next : ℕ) × (atoms_at conditions.now (length conditions.now) register_count number at ≡ value (policy.postcondition, next)))) (term_at ws.old credit) (λ policy routine. ends (returning (path_of ws.old path) (term_at ws.old credit) policy.postcondition)) path progress result }
+    requires credit_in { NodeIn ws.old path credit }
+    requires reached { Reached setting.now.routine.bytes.now progress }
+    ensures { MovesIn ws.old ws.new setting.now (term_at ws.old credit) (λ policy routine. ends (returning (path_of ws.old path) (term_at ws.old credit) policy.postcondition)) path progress result }
 {
-    let judged = arrivals::returning(
-        conditions, at, number, bytes, regions, count, ws, path, credit, progress,
-    );
-    ended(path, judged)
+    let after = arrivals::returning(setting, ws, path, credit, progress)?;
+    Ok(Moved::Ended(after))
 }

@@ -1,90 +1,91 @@
 // The readers of a constant and of a variable, which build in the term table. The variable of a register is the node registers[v].
 #![tactic(auto)]
 
-ghost use Rattle.std.specs.Prelude.{◌≤◌, ◌<◌, length};
-ghost use Rattle.model.specs.Expression.{four_byte_constant, two_byte_variable};
-ghost use Rattle.workspace.specs.Layout.{most_variables};
-ghost use Rattle.leaf_reader.specs.Leaves.{Ready, NodeRead};
+ghost use Rattle.std.specs.Prelude.{◌≡◌, ◌<◌, ◌≤◌, ℕ, length};
+ghost use Rattle.model.specs.Expression.{Nodes, node_of, four_byte_constant, two_byte_variable};
+ghost use Rattle.model.specs.Term.{Term};
+ghost use Rattle.nodes.specs.Table.{Formed, Space};
+ghost use Rattle.leaf_reader.specs.Leaves.{Ready, node_in, nodes_over, nodes_answer, Grown};
+
+mod sources;
 
 use limits::REGISTERS;
+use model::ReadError;
+pub use sources::Source;
 
-// What reading an expression gives: its node, the next position, the nodes left and the table's new top; or bytes are missing; or a
-// fault at a position.
+// What reading an expression gives: its node, the next position, the nodes left and the table's new top.
 #[derive(Clone, Copy)]
-pub enum Parse {
-    Term {
-        number: u32,
-        next: usize,
-        left: u32,
-        top: usize,
-    },
-    Missing,
-    Fault(usize),
+pub struct Parsed {
+    pub node: usize,
+    pub next: usize,
+    pub left: u32,
+    pub top: usize,
 }
 
 // The constant after the tag at `at`, as a new node.
 pub fn read_constant(
     bytes: &[u8],
-    ws: &mut [u32],
     end: usize,
-    limit: usize,
-    registers: [u32; REGISTERS],
+    ws: &mut [u32],
     at: usize,
     left: u32,
     top: usize,
-) -> Parse
-    requires at_lt_end { (at < end) × (end ≤ length bytes.now) × (0 < left) }
-    requires ready { Ready ws.old registers top left }
-    ensures { NodeRead ws.old ws.new registers bytes.now end limit at left top four_byte_constant result }
+) -> Result<Parsed, ReadError>
+    requires at_in_bounds { (at < end) × (end ≤ length bytes.now) }
+    requires node_left { 0 < left }
+    requires formed { Formed ws.old top }
+    requires space { Space ws.old top left }
+    ensures answer { (limit : ℕ) (σ : ℕ → Term) (operand : (left p : ℕ) → Nodes) → nodes_answer ws.new result ≡ nodes_over σ (node_of bytes.now end limit operand four_byte_constant left at) }
+    ensures grown { Grown ws.old ws.new end top left result }
 {
     if end - at < 5 {
-        return Parse::Missing;
+        return Err(ReadError::Missing);
     }
     terms::put_constant(ws, top, fields::word(bytes, at + 1));
-    Parse::Term {
-        number: top as u32,
+    Ok(Parsed {
+        node: top,
         next: at + 5,
         left: left - 1,
         top: top + 1,
-    }
+    })
 }
 
 // The variable after the tag at `at`: a register's node, or a new one.
 pub fn read_variable(
-    bytes: &[u8],
+    source: &Source,
     ws: &mut [u32],
-    end: usize,
-    limit: usize,
-    registers: [u32; REGISTERS],
     at: usize,
     left: u32,
     top: usize,
-) -> Parse
-    requires at_lt_end { (at < end) × (end ≤ length bytes.now) × (0 < left) }
-    requires limit_le_most_variables { limit ≤ most_variables }
-    requires ready { Ready ws.old registers top left }
-    ensures { NodeRead ws.old ws.new registers bytes.now end limit at left top two_byte_variable result }
+) -> Result<Parsed, ReadError>
+    requires at_in_bounds { at < source.now.end }
+    requires node_left { 0 < left }
+    requires ready { Ready ws.old source.now.registers top left }
+    ensures answer { (operand : (left p : ℕ) → Nodes) → nodes_answer ws.new result ≡ node_in ws.old source.now operand two_byte_variable left at }
+    ensures grown { Grown ws.old ws.new source.now.end top left result }
 {
-    if end - at < 3 {
-        return Parse::Missing;
+    if source.end - at < 3 {
+        return Err(ReadError::Missing);
     }
-    let v = fields::half(bytes, at + 1);
-    if limit <= v {
-        return Parse::Fault(at + 1);
+    let v = fields::half(source.bytes, at + 1);
+    if source.limit <= v {
+        return Err(ReadError::Fault(at + 1));
     }
+    let next = at + 3;
+    let left = left - 1;
     if v < REGISTERS {
-        return Parse::Term {
-            number: registers[v],
-            next: at + 3,
-            left: left - 1,
+        return Ok(Parsed {
+            node: source.registers[v] as usize,
+            next,
+            left,
             top,
-        };
+        });
     }
     terms::put_variable(ws, top, v as u32);
-    Parse::Term {
-        number: top as u32,
-        next: at + 3,
-        left: left - 1,
+    Ok(Parsed {
+        node: top,
+        next,
+        left,
         top: top + 1,
-    }
+    })
 }

@@ -1,5 +1,5 @@
 -- Laws of the comparison: one for each way out. Assumes nothing.
-use mathlib.Core.Path.{◌≡◌, refl, sym, ap, ◌∙◌}
+use mathlib.Core.Path.{◌≡◌, refl, sym, ◌∙◌}
 use mathlib.Core.Bool.{Bool, true, false, ◌&&◌}
 use mathlib.Core.List.{List}
 use Prim.Native.Nat.{ℕ, ◌≤◌, ◌<◌}
@@ -13,19 +13,18 @@ use Rattle.model.specs.Linear.{same_form}
 use Rattle.model.proofs.Terms.{and_left}
 use Rattle.workspace.specs.Layout.{Same, constant_word, area_words, hint_base}
 use Rattle.nodes.specs.Table.{high, marks_at, term_at, plain}
-use Rattle.workspace.proofs.Frames.{same_refl, same_within}
+use Rattle.workspace.proofs.Frames.{same_within}
 use Rattle.nodes.proofs.Table.{same_terms}
 use Rattle.forms.specs.Area.{Tree, Accumulated, Comparable, Emptied}
 use Rattle.weights.specs.Weights.{Reckoned}
-use Rattle.linear.specs.Comparison.{comparison_of}
 use Rattle.forms.proofs.Forms.{zeros_same_form, zero_beyond, same_form_refl, plain_coefficient, clash}
 use Rattle.forms.proofs.Laws.{term_kept, tree_kept, bounded_more, above_both}
 
 -- the same node stands for both
-pub same_twins : {ws : List ℕ} {i j n : ℕ} {r : Bool} → Comparable ws i j n → r ≡ eqb (high (marks_at ws i)) (high (marks_at ws j)) → r ≡ true → (comparison_of true ≡ comparison_of (same_form (term_at ws i) (term_at ws j))) × Same 0 hint_base ws ws
+pub same_twins : {ws : List ℕ} {i j n : ℕ} {r : Bool} → Comparable ws i j n → r ≡ eqb (high (marks_at ws i)) (high (marks_at ws j)) → r ≡ true → true ≡ same_form (term_at ws i) (term_at ws j)
 same_twins {ws} {i} {j} c e h =
     let t : term_at ws i ≡ term_at ws j = same_terms c.left.formed.shaped c.right.formed.shaped (eqb-true (high (marks_at ws i)) (high (marks_at ws j)) (sym e ∙ h)) in
-    (rw (t, same_form_refl (term_at ws j)), same_refl 0 hint_base ws)
+    rw (t, same_form_refl (term_at ws j))
 
 -- every variable below the constant's word may stand in the terms
 pub comparable_most : {ws : List ℕ} {i j n : ℕ} → Comparable ws i j n → Comparable ws i j constant_word
@@ -53,13 +52,13 @@ module _ {ws : List ℕ} {i j : ℕ} (c : Comparable ws i j constant_word) (h : 
   }
 
 module _ {ws vs xs : List ℕ} {i j n : ℕ} {r o : Bool} (c : Comparable ws i j n) (a : Reckoned ws vs (term_at ws i) (term_at ws j) o) (e : Emptied vs xs n r) where
-  answered : (r && o) ≡ same_form (term_at ws i) (term_at ws j)
+  pub answered : (r && o) ≡ same_form (term_at ws i) (term_at ws j)
   answered = rw e.is (zeros_same_form (term_at ws i) (term_at ws j) vs a.area n c.few c.left.within c.right.within o a.agree a.differ)
 
   enough : hint_base ≤ length ws
   enough = omega (arith, c.left.formed.shaped.words)
 
-  restored : Same 0 hint_base ws xs
+  pub restored : Same 0 hint_base ws xs
   restored = record { word = λ p z l. go p l (dec_lt p n) (dec_lt p constant_word) (ℕ_discrete p constant_word) }
     where
       go : (p : ℕ) → p < hint_base → Dec (p < n) → Dec (p < constant_word) → Dec (p ≡ constant_word) → get_or xs p 0 ≡ get_or ws p 0
@@ -67,6 +66,3 @@ module _ {ws vs xs : List ℕ} {i j n : ℕ} {r o : Bool} (c : Comparable ws i j
       go p l (no m) (yes d) f = e.others p (omega arith) (omega (arith, enough, a.long)) (omega arith) ∙ zero_beyond (term_at ws i) (term_at ws j) vs a.area n c.few c.left.within c.right.within p (omega arith) d ∙ sym (c.cleared.word p (omega arith))
       go p l (no m) (no d) (yes f) = rw f (e.constant ∙ sym (c.cleared.word constant_word (omega arith)))
       go p l (no m) (no d) (no f) = e.others p (omega arith) (omega (arith, enough, a.long)) f ∙ a.above.word p (omega arith) l
-
-  pub compared : {q : Bool} → (r && o) ≡ q → (comparison_of q ≡ comparison_of (same_form (term_at ws i) (term_at ws j))) × Same 0 hint_base ws xs
-  compared d = (ap comparison_of (sym d ∙ answered), restored)

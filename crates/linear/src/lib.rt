@@ -2,19 +2,11 @@
 #![tactic(auto)]
 
 ghost use Rattle.std.specs.Prelude.{◌≡◌};
-ghost use Rattle.model.specs.Linear.{same_form};
+ghost use Rattle.model.specs.Linear.{same_form as isSameForm};
 ghost use Rattle.workspace.specs.Layout.{constant_word, hint_base, Same};
 ghost use Rattle.nodes.specs.Table.{term_at};
 ghost use Rattle.forms.specs.Area.{Comparable};
 ghost use Rattle.weights.specs.Weights.{Reckoned};
-ghost use Rattle.linear.specs.Comparison.{comparison_of};
-
-// What two linear forms are to each other.
-#[derive(Clone, Copy)]
-pub enum FormComparison {
-    Same,
-    Different,
-}
 
 // Terms of at most so many nodes are walked as trees.
 const SMALL: u32 = 32;
@@ -31,7 +23,7 @@ fn reckon(ws: &mut [u32], i: usize, j: usize) -> bool
         forms::accumulate(ws, j, true);
         return true;
     }
-    let nodes = weights::larger(i, j) + 1;
+    let nodes = i.max(j) + 1;
     weights::reckon_by_table(ws, i, j, nodes);
     if plain {
         return true;
@@ -39,21 +31,17 @@ fn reckon(ws: &mut [u32], i: usize, j: usize) -> bool
     weights::settle(ws, nodes)
 }
 
-// Compares the linear forms of the terms of nodes i and j, whose variables are among the first variables. The workspace is as it was, but for
-// hints.
-pub fn compare(ws: &mut [u32], i: usize, j: usize, variables: usize) -> FormComparison
+// Whether the linear forms of the terms of nodes i and j are the same; their variables are among the first variables. The workspace is as it
+// was, but for hints.
+pub fn same_form(ws: &mut [u32], i: usize, j: usize, variables: usize) -> bool
     requires { Comparable ws.old i j variables }
-    ensures value { result ≡ comparison_of (same_form (term_at ws.old i) (term_at ws.old j)) }
+    ensures value { result ≡ isSameForm (term_at ws.old i) (term_at ws.old j) }
     ensures same { Same 0 hint_base ws.old ws.new }
 {
     if nodes::twins(ws, i, j) {
-        return FormComparison::Same;
+        return true;
     }
     let opaque = reckon(ws, i, j);
     let zero = forms::empty(ws, variables);
-    if zero & opaque {
-        FormComparison::Same
-    } else {
-        FormComparison::Different
-    }
+    zero & opaque
 }

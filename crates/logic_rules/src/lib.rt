@@ -2,6 +2,7 @@
 #![tactic(auto)]
 
 ghost use Rattle.std.specs.Prelude.{List, ℕ, ◌<◌, ◌≤◌, length};
+ghost use Rattle.model.specs.Result.{Ok};
 ghost use Rattle.model.specs.Goals.{Claim as Claimed};
 ghost use Rattle.model.specs.Rule.{from_assumption, evaluation, contradiction};
 ghost use Rattle.model.specs.Verdict.{least_workspace};
@@ -9,121 +10,93 @@ ghost use Rattle.nodes.specs.Table.{term_at, Formed};
 ghost use Rattle.assumptions.specs.Area.{listed, Listed};
 ghost use Rattle.claims.specs.Parts.{claim_of, ClaimBelow};
 ghost use Rattle.claims.specs.Plan.{Planned, Anywhere, Assuming, asks, always};
-ghost use Rattle.logic_rules.specs.Sides.{reflexive_premises, side_premises};
+ghost use Rattle.logic_rules.specs.Sides.{reflexive_premises, side_premises, ShapeBelow};
 
-use claims::parts::Pair;
-use claims::{Claim, Plan, parts, plans};
-use model::Comparison;
-use term_walks::Closed;
+use claims::{Claim, Plan, Premise, parts, plans};
+use model::{Comparison, Misfit};
 
-// The premises of a rule on a claim a ~ b, m being the rule's argument.
+// The premises of a rule on a claim a ~ b, by their kinds; m is the rule's node.
 #[derive(Clone, Copy)]
 pub enum Shape {
     // b ~ a
-    Exchanged,
+    Exchanged(Comparison),
     // a ~ b
-    Same,
+    Same(Comparison),
     // a ~ b twice
-    Both,
+    Both(Comparison, Comparison),
     // a ~ m, m ~ b
-    Through,
+    Through(Comparison, usize, Comparison),
 }
 
 // Rule 0: an assumption, by its index.
-pub fn assumed(ws: &[u32], count: usize, claim: Claim, index: usize, top: usize) -> Plan
+pub fn assumed(
+    ws: &[u32],
+    count: usize,
+    claim: Claim,
+    index: usize,
+    top: usize,
+) -> Result<Plan, Misfit>
     requires formed { Formed ws.now top }
-    requires least_workspace_in_bounds { (least_workspace ≤ length ws.now) × Listed ws.now count top }
+    requires listed { (least_workspace ≤ length ws.now) × Listed ws.now count top }
     requires claim_below { ClaimBelow top claim }
     ensures { Planned (Assuming (listed ws.now count)) (asks (from_assumption index) (claim_of ws.now claim)) ws.now ws.now top result }
 {
-    let Claim::Atom(kind, left, right) = claim else {
-        return plans::unfit(top);
-    };
+    let claimed = parts::comparison(claim)?;
     if count <= index {
-        return plans::unfit(top);
+        return Err(Misfit);
     }
-    if parts::is_assumption(ws, index, kind, left, right) {
-        plans::none(top)
-    } else {
-        plans::unfit(top)
-    }
+    plans::none_if(parts::is_assumption(ws, index, claimed), top)
 }
 
 // Rules 1 and 2: a = a, a ≤ a.
-pub fn reflexive(ws: &[u32], claim: Claim, kind: Comparison, top: usize) -> Plan
+pub fn reflexive(ws: &[u32], claim: Claim, kind: Comparison, top: usize) -> Result<Plan, Misfit>
     requires formed { Formed ws.now top }
     requires claim_below { ClaimBelow top claim }
     ensures { Planned Anywhere (always (reflexive_premises kind (claim_of ws.now claim))) ws.now ws.now top result }
 {
-    let Pair::Nodes(a, b) = parts::sides(claim, kind) else {
-        return plans::unfit(top);
-    };
-    if term_walks::same(ws, a, b) {
-        plans::none(top)
-    } else {
-        plans::unfit(top)
-    }
+    let (a, b) = parts::sides(claim, kind)?;
+    plans::none_if(term_walks::same(ws, a, b), top)
 }
 
 // Rule 3: any atom without variables, true by evaluation.
-pub fn evaluated(ws: &[u32], claim: Claim, top: usize) -> Plan
+pub fn evaluated(ws: &[u32], claim: Claim, top: usize) -> Result<Plan, Misfit>
     requires formed { Formed ws.now top }
     requires claim_below { ClaimBelow top claim }
     ensures { Planned Anywhere (asks evaluation (claim_of ws.now claim)) ws.now ws.now top result }
 {
-    let Claim::Atom(kind, left, right) = claim else {
-        return plans::unfit(top);
-    };
-    let Closed::Value(a) = term_walks::evaluate(ws, left) else {
-        return plans::unfit(top);
-    };
-    let Closed::Value(b) = term_walks::evaluate(ws, right) else {
-        return plans::unfit(top);
-    };
-    if parts::holds(kind, a, b) {
-        plans::none(top)
-    } else {
-        plans::unfit(top)
-    }
+    let claimed = parts::comparison(claim)?;
+    let a = term_walks::evaluate(ws, claimed.left).ok_or(Misfit)?;
+    let b = term_walks::evaluate(ws, claimed.right).ok_or(Misfit)?;
+    plans::none_if(parts::holds(claimed.kind, a, b), top)
 }
 
-// Rules 4 to 10 and 19 to 21: a claim a ~ b of the kind `whole`, from comparisons of the kinds `first` and `second` that its shape names.
-pub fn from_sides(
-    claim: Claim,
-    whole: Comparison,
-    shape: Shape,
-    first: Comparison,
-    second: Comparison,
-    m: usize,
-    top: usize,
-) -> Plan
+// Rules 4 to 10 and 19 to 21: a claim a ~ b of the kind `whole`, from the comparisons that its shape names.
+pub fn from_sides(claim: Claim, whole: Comparison, shape: Shape, top: usize) -> Result<Plan, Misfit>
     requires claim_below { ClaimBelow top claim }
-    requires m_lt_top { m < top }
-    ensures { (ws : List ℕ) → Formed ws top → Planned Anywhere (always (side_premises whole shape first second (term_at ws m) (claim_of ws claim))) ws ws top result }
+    requires shape_below { ShapeBelow top shape }
+    ensures { (ws : List ℕ) → Formed ws top → Planned Anywhere (always (side_premises ws whole shape (claim_of ws claim))) ws ws top result }
 {
-    let Pair::Nodes(a, b) = parts::sides(claim, whole) else {
-        return plans::unfit(top);
-    };
+    let (a, b) = parts::sides(claim, whole)?;
     match shape {
-        Shape::Exchanged => plans::one(plans::compared(first, b, a), top),
-        Shape::Same => plans::one(plans::compared(first, a, b), top),
-        Shape::Both => plans::two(
-            plans::compared(first, a, b),
-            plans::compared(second, a, b),
+        Shape::Exchanged(kind) => Ok(plans::one(Premise::new(kind, b, a), top)),
+        Shape::Same(kind) => Ok(plans::one(Premise::new(kind, a, b), top)),
+        Shape::Both(first, second) => Ok(plans::two(
+            Premise::new(first, a, b),
+            Premise::new(second, a, b),
             top,
-        ),
-        Shape::Through => plans::two(
-            plans::compared(first, a, m),
-            plans::compared(second, m, b),
+        )),
+        Shape::Through(first, m, second) => Ok(plans::two(
+            Premise::new(first, a, m),
+            Premise::new(second, m, b),
             top,
-        ),
+        )),
     }
 }
 
 // Rule 24: any claim from m < m.
 pub fn contradicted(m: usize, top: usize) -> Plan
     requires { m < top }
-    ensures { (ws : List ℕ) → Formed ws top → (c : Claimed) → Planned Anywhere (asks (contradiction (term_at ws m)) c) ws ws top result }
+    ensures { (ws : List ℕ) → Formed ws top → (c : Claimed) → Planned Anywhere (asks (contradiction (term_at ws m)) c) ws ws top (Ok result) }
 {
-    plans::one(plans::compared(Comparison::Less, m, m), top)
+    plans::one(Premise::new(Comparison::Less, m, m), top)
 }

@@ -1,40 +1,28 @@
 -- A step of one instruction: a law for each operation. Assumes nothing.
-use mathlib.Core.Path.{◌≡◌, refl, sym, subst, ◌∙◌}
-use mathlib.Core.Bool.{Bool, true, false, ◌&&◌}
-use Prim.Native.Nat.{ℕ, ◌+◌, ◌<◌}
+use mathlib.Core.Path.{◌≡◌, refl, ◌∙◌}
+use mathlib.Core.Bool.{Bool, true, false}
+use Prim.Native.Nat.{ℕ, ◌+◌}
 use mathlib.Core.List.{List}
 use lib.ListN.{length, get_or, set}
 use lib.Dec.{ltb, eqb}
-use borrow.Author.Tests.{ltb-true}
 use Rattle.model.specs.Word.{add_w, sub_w, mask_w, shift_w}
 use Rattle.model.specs.Policy.{Policy, readable_word, writable_word}
 use Rattle.model.specs.Machine.{State, next, assigned, branched, execute}
 use Rattle.model.specs.declared.Region.{Region}
+use Rattle.model.specs.declared.Right.TheVariants.{Read, Write}
 use Rattle.model.specs.declared.Instruction.{Instruction}
 use Rattle.model.specs.declared.Instruction.TheVariants.{Set, Add, AddImmediate, Subtract, Load, Store, Jump, JumpLess, JumpEqual, Return, Mask, Shift}
 use Rattle.machine.specs.declared.Progress.{Progress}
 use Rattle.machine.specs.declared.Progress.TheVariants.{Next, Returned, WithoutRight}
 use Rattle.rights.specs.Right.{permits}
-use Rattle.machine.specs.Step.{Ready, Under, Executed, state, target, step_of, Kept}
-
--- the instruction is known
-pub told : {counter count : ℕ} {registers : List ℕ} {instruction q : Instruction} → instruction ≡ q → Ready counter count registers instruction → Ready counter count registers q
-told {counter} {count} {registers} e ready = subst (λ (x : Instruction). Ready counter count registers x) e ready
-
--- a word with a right lies in the memory
-pub inside : (right memory : ℕ) (regions : List Region) (w : ℕ) (given : Bool) → given ≡ permits right memory regions w → given ≡ true → w < memory
-inside right memory regions w given e t = ltb-true w memory (both (ltb w memory) _ (sym e ∙ t))
-  where
-    both : (a b : Bool) → (a && b) ≡ true → a ≡ true
-    both true b h = refl
-    both false b h = h
+use Rattle.machine.specs.Step.{Under, Executed, state, target, step_of, Kept}
 
 module _ (policy : Policy) (memory : ℕ) (regions : List Region) (u : Under policy memory regions) (w : ℕ) where
-  pub reads : readable_word policy w ≡ permits 1 memory regions w
+  pub reads : readable_word policy w ≡ permits Read memory regions w
   unfolding readable_word
   reads = rw (u.words, u.granted)
 
-  pub writes : writable_word policy w ≡ permits 2 memory regions w
+  pub writes : writable_word policy w ≡ permits Write memory regions w
   unfolding writable_word
   writes = rw (u.words, u.granted)
 
@@ -43,9 +31,6 @@ module _ (regions : List Region) (counter : ℕ) (registers memory : List ℕ) w
   s = state counter registers memory
 
   module _ (instruction q : Instruction) (e : instruction ≡ q) where
-    pub same : (r : Progress) (registers' memory' : List ℕ) → Executed regions q s r registers' memory' → Executed regions instruction s r registers' memory'
-    same r registers' memory' x = rw e x
-
     -- it goes on
     onward : (r : Progress) (c : ℕ) (registers' memory' : List ℕ) → r ≡ Next c
         → ((policy : Policy) → Under policy (length memory) regions → next (state c registers' memory') ≡ execute policy s q)
@@ -89,11 +74,11 @@ module _ (regions : List Region) (counter : ℕ) (registers memory : List ℕ) w
     subtracts a b x y e ex ey ew = onward instruction (Subtract d a b) e r (counter + 1) registers' memory done.0 (λ p u. rw (done.1, ew, ex, ey))
 
   -- the address of a load or store, and whether the right to it is given
-  module _ (d a i x y m : ℕ) (ex : x ≡ get_or registers a 0) (ey : y ≡ add_w x i) (em : m ≡ y) (given : Bool) where
+  module _ (d a i x m : ℕ) (ex : x ≡ get_or registers a 0) (em : m ≡ add_w x i) (given : Bool) where
     address : m ≡ add_w (get_or registers a 0) i
-    address = em ∙ ey ∙ rw ex
+    address = em ∙ rw ex
 
-    module _ (g : given ≡ permits 1 (length memory) regions m) where
+    module _ (g : given ≡ permits Read (length memory) regions m) where
       pub loads : given ≡ true → (r : Progress) (registers' : List ℕ) → (r ≡ Next (counter + 1)) × (registers' ≡ set registers d (get_or memory m 0)) → Executed regions (Load d a i) s r registers' memory
       unfolding execute
       loads t r registers' done = onward (Load d a i) (Load d a i) refl r (counter + 1) registers' memory done.0 (λ p u. rw (done.1, ← address, reads p (length memory) regions u m, ← g, t))
@@ -102,7 +87,7 @@ module _ (regions : List Region) (counter : ℕ) (registers memory : List ℕ) w
       unfolding execute
       refuses_load t = ends (Load d a i) (Load d a i) refl WithoutRight (refl, refl) (λ p u. rw (← address, reads p (length memory) regions u m, ← g, t))
 
-    module _ (g : given ≡ permits 2 (length memory) regions m) where
+    module _ (g : given ≡ permits Write (length memory) regions m) where
       pub stores : given ≡ true → (w : ℕ) → w ≡ get_or registers d 0 → (r : Progress) (memory' : List ℕ) → (r ≡ Next (counter + 1)) × (memory' ≡ set memory m w) → Executed regions (Store d a i) s r registers memory'
       unfolding execute
       stores t w ew r memory' done = onward (Store d a i) (Store d a i) refl r (counter + 1) registers memory' done.0 (λ p u. rw (done.1, ← address, writes p (length memory) regions u m, ← g, t, ew))
@@ -112,9 +97,9 @@ module _ (regions : List Region) (counter : ℕ) (registers memory : List ℕ) w
       refuses_store t = ends (Store d a i) (Store d a i) refl WithoutRight (refl, refl) (λ p u. rw (← address, writes p (length memory) regions u m, ← g, t))
 
   module _ (instruction : Instruction) where
-    pub jumps : (i c : ℕ) → instruction ≡ Jump i → c ≡ i → Executed regions instruction s (Next c) registers memory
+    pub jumps : (i : ℕ) → instruction ≡ Jump i → Executed regions instruction s (Next i) registers memory
     unfolding execute
-    jumps i c e h = onward instruction (Jump i) e (Next c) c registers memory refl (λ p u. rw h)
+    jumps i e = onward instruction (Jump i) e (Next i) i registers memory refl (λ p u. refl)
 
     branching : (taken : Bool) (i : ℕ) → next (state (target taken i counter) registers memory) ≡ next (branched s taken i)
     branching true i = refl

@@ -1,6 +1,6 @@
 -- What a step on lent registers and memory comes to. Assumes nothing.
-use Rattle.std.specs.Prelude.{◌≡◌, Bool, true, false, List, ℕ, ◌+◌, ◌≤◌, ◌<◌, length}
-use Rattle.model.specs.Policy.{Policy, most_regions}
+use Rattle.std.specs.Prelude.{◌≡◌, Bool, true, false, List, ℕ, ◌+◌, ◌<◌, length}
+use Rattle.model.specs.Policy.{Policy}
 use Rattle.model.specs.Expression.{register_count}
 use Rattle.model.specs.Package.{most_instructions}
 use Rattle.model.specs.Machine.{State, Step, next, returns, without_right, execute}
@@ -11,9 +11,8 @@ use Rattle.machine.specs.declared.Progress.{Progress}
 use Rattle.machine.specs.declared.Progress.TheVariants.{Next, Returned, WithoutRight}
 
 -- what a step asks of its arguments
-pub record Ready (counter count : ℕ) (registers : List ℕ) (instruction : Instruction) : Type 0 where
+pub record Ready (counter : ℕ) (registers : List ℕ) (instruction : Instruction) : Type 0 where
   pub low : counter < most_instructions
-  pub few : count ≤ most_regions
   pub sixteen : length registers ≡ register_count
   -- the instruction is one of a code of some size
   pub size : ℕ

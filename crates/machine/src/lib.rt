@@ -1,12 +1,11 @@
 // The machine: one step of one instruction on lent registers and memory.
 #![tactic(auto)]
 
-ghost use Rattle.std.specs.Prelude.{◌≡◌, ◌+◌, ◌<◌, length, get_or, take, set};
+ghost use Rattle.std.specs.Prelude.{◌≡◌, ◌+◌, ◌<◌, length, get_or, set};
 ghost use Rattle.model.specs.Package.{most_instructions};
 ghost use Rattle.machine.specs.Step.{Ready, target, state, Executed};
 
-use limits::MOST_REGIONS;
-use model::{Instruction, Region};
+use model::{Instruction, Region, Right};
 
 // What a step comes to: the counter to go on at, or why the run ends.
 #[derive(Clone, Copy)]
@@ -47,7 +46,7 @@ fn branch(taken: bool, i: u32, counter: usize) -> Progress
     ensures { result ≡ Progress.Next (target taken i counter) }
 {
     if taken {
-        return Progress::Next(fields::wide(i));
+        return Progress::Next(i as usize);
     }
     Progress::Next(counter + 1)
 }
@@ -58,16 +57,15 @@ fn load(
     a: u8,
     i: u32,
     counter: usize,
-    regions: [Region; MOST_REGIONS],
-    count: usize,
+    regions: &[Region],
     registers: &mut [u32],
     memory: &[u32],
 ) -> Progress
-    requires { Ready counter count registers.old (Instruction.Load d a i) }
-    ensures { Executed (take count regions) (Instruction.Load d a i) (state counter registers.old memory.now) result registers.new memory.now }
+    requires { Ready counter registers.old (Instruction.Load d a i) }
+    ensures { Executed regions.now (Instruction.Load d a i) (state counter registers.old memory.now) result registers.new memory.now }
 {
-    let at = fields::wide(fields::add(word(registers, a), i));
-    if rights::readable(regions, count, memory.len(), at) {
+    let at = fields::add(word(registers, a), i) as usize;
+    if rights::permits(regions, memory.len(), Right::Read, at) {
         let w = memory[at];
         return assign(d, w, counter, registers);
     }
@@ -80,16 +78,15 @@ fn store(
     a: u8,
     i: u32,
     counter: usize,
-    regions: [Region; MOST_REGIONS],
-    count: usize,
+    regions: &[Region],
     registers: &[u32],
     memory: &mut [u32],
 ) -> Progress
-    requires { Ready counter count registers.now (Instruction.Store d a i) }
-    ensures { Executed (take count regions) (Instruction.Store d a i) (state counter registers.now memory.old) result registers.now memory.new }
+    requires { Ready counter registers.now (Instruction.Store d a i) }
+    ensures { Executed regions.now (Instruction.Store d a i) (state counter registers.now memory.old) result registers.now memory.new }
 {
-    let at = fields::wide(fields::add(word(registers, a), i));
-    if rights::writable(regions, count, memory.len(), at) {
+    let at = fields::add(word(registers, a), i) as usize;
+    if rights::permits(regions, memory.len(), Right::Write, at) {
         let w = word(registers, d);
         return put(memory, at, w, counter);
     }
@@ -100,13 +97,12 @@ fn store(
 pub fn execute(
     instruction: Instruction,
     counter: usize,
-    regions: [Region; MOST_REGIONS],
-    count: usize,
+    regions: &[Region],
     registers: &mut [u32],
     memory: &mut [u32],
 ) -> Progress
-    requires { Ready counter count registers.old instruction }
-    ensures { Executed (take count regions) instruction (state counter registers.old memory.old) result registers.new memory.new }
+    requires { Ready counter registers.old instruction }
+    ensures { Executed regions.now instruction (state counter registers.old memory.old) result registers.new memory.new }
 {
     match instruction {
         Instruction::Set { d, i } => assign(d, i, counter, registers),
@@ -122,11 +118,9 @@ pub fn execute(
             let w = fields::sub(word(registers, a), word(registers, b));
             assign(d, w, counter, registers)
         }
-        Instruction::Load { d, a, i } => load(d, a, i, counter, regions, count, registers, memory),
-        Instruction::Store { d, a, i } => store(
-            d, a, i, counter, regions, count, registers, memory,
-        ),
-        Instruction::Jump { i } => Progress::Next(fields::wide(i)),
+        Instruction::Load { d, a, i } => load(d, a, i, counter, regions, registers, memory),
+        Instruction::Store { d, a, i } => store(d, a, i, counter, regions, registers, memory),
+        Instruction::Jump { i } => Progress::Next(i as usize),
         Instruction::JumpLess { a, b, i } => {
             let taken = word(registers, a) < word(registers, b);
             branch(taken, i, counter)

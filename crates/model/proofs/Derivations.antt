@@ -12,7 +12,7 @@ use Rattle.model.specs.Field.{byte_at, half_at}
 use Rattle.model.specs.Goals.{Claim, Goal, Trace, goals, append, annotation_block, annotation_blocks, atom, goal, finish, refuse}
 use Rattle.model.specs.Policy.{Policy}
 use Rattle.model.specs.Refusal.{number_of}
-use Rattle.model.specs.Result.{Result, stop, value, ◌>>=◌}
+use Rattle.model.specs.Result.{Result, Err, Ok, ◌>>=◌}
 use Rattle.model.specs.Routine.{Routine}
 use Rattle.model.specs.Rule.{Rule, Format, plain, with_index, with_term, with_region}
 use Rattle.model.specs.Verdict.{answered, judge}
@@ -25,7 +25,7 @@ use Rattle.model.proofs.Rules.{ClaimHolds, FormatSound, rules_sound, RegionsFit,
 use Rattle.model.proofs.Terms.{WordEnv}
 
 -- derivations of all atoms, where each derivation is right
-all_derived : (bytes : List ℕ) (env : ℕ → ℕ) (one : Claim → ℕ → Result Refusal ℕ)
+all_derived : (bytes : List ℕ) (env : ℕ → ℕ) (one : Claim → ℕ → Result ℕ Refusal)
     → ((a : Atom) (p : ℕ) → Gives (λ _. Holds env a) (one (atom a) p))
     → (atoms : List Atom) (p : ℕ) → Gives (λ _. AllHold env atoms) (derive_all bytes one atoms p)
 unfolding derive_all AllHold
@@ -37,11 +37,11 @@ module _ (bytes : List ℕ) (policy : Policy) (fit : RegionsFit policy) (g : Goa
     (env : ℕ → ℕ) (words : WordEnv env) (assumed : AllHold env g.assumptions) where
   -- a rule is sound with each argument that is read
   argument_read : (p : ℕ) (format : Format) → FormatSound policy fit g env words assumed format
-      → Gives (λ (r : Rule × ℕ). SoundRule policy fit g env words assumed r.0) (elim format as (λ _. Result Refusal (Rule × ℕ)) [
-        | plain rule ↦ value (rule, p + 1)
-        | with_index rule ↦ proof_field bytes (half_at bytes (length bytes) (p + 1)) >>= λ index. value (rule index, p + 3)
-        | with_term rule ↦ proof_field bytes (expression_at bytes (length bytes) g.variables (p + 1)) >>= λ (m, q). value (rule m, q)
-        | with_region rule ↦ proof_field bytes (byte_at bytes (length bytes) (p + 1)) >>= λ j. value (rule j, p + 2)
+      → Gives (λ (r : Rule × ℕ). SoundRule policy fit g env words assumed r.0) (elim format as (λ _. Result (Rule × ℕ) Refusal) [
+        | plain rule ↦ Ok (rule, p + 1)
+        | with_index rule ↦ proof_field bytes (half_at bytes (length bytes) (p + 1)) >>= λ index. Ok (rule index, p + 3)
+        | with_term rule ↦ proof_field bytes (expression_at bytes (length bytes) g.variables (p + 1)) >>= λ (m, q). Ok (rule m, q)
+        | with_region rule ↦ proof_field bytes (byte_at bytes (length bytes) (p + 1)) >>= λ j. Ok (rule j, p + 2)
       ])
   argument_read p (plain rule) sound = gives sound
   argument_read p (with_index rule) sound = gives_next λ index _. gives (sound index)
@@ -68,7 +68,7 @@ pub derive_sound : (bytes : List ℕ)
     → (policy : Policy)
     → RegionsFit policy
     → (g : Goal) (levels : ℕ) (claim : Claim) (p q : ℕ)
-    → derive bytes policy g levels claim p ≡ value q
+    → derive bytes policy g levels claim p ≡ Ok q
     → (env : ℕ → ℕ)
     → WordEnv env
     → AllHold env g.assumptions
@@ -147,11 +147,11 @@ number_positive (BadArgument p) = omega arith
 number_positive (ProofLeft p) = omega arith
 
 -- an answer 0 comes of a value
-pub answered_value : {A : Type 0} (r : Result Refusal A) (derived : ℕ) (k : A → Verdict) → (answered r derived k).number ≡ 0
-    → (a : A) × (r ≡ value a) × ((k a).number ≡ 0)
+pub answered_value : {A : Type 0} (r : Result A Refusal) (derived : ℕ) (k : A → Verdict) → (answered r derived k).number ≡ 0
+    → (a : A) × (r ≡ Ok a) × ((k a).number ≡ 0)
 unfolding answered
-answered_value (stop r) derived k e = absurd (omega (arith, number_positive r))
-answered_value (value a) derived k e = (a, refl, e)
+answered_value (Err r) derived k e = absurd (omega (arith, number_positive r))
+answered_value (Ok a) derived k e = (a, refl, e)
 
 pub judge_sound : (bytes : List ℕ) (policy : Policy) → RegionsFit policy → (t : Trace) (p derived : ℕ)
     → (judge bytes policy t p derived).number ≡ 0 → Sound policy t

@@ -10,7 +10,7 @@ use lib.ListN.{get_elem?, get_or}
 use Rattle.model.specs.Kept.{Protected, Kept}
 use Rattle.model.specs.Machine.{State, start_of, Step, word, address, assigned, stored, branched, permitted, execute, step, next, returns, without_right, past_end}
 use Rattle.model.specs.Policy.{Policy, readable_word, writable_word, read_policy}
-use Rattle.model.specs.Result.{Result, stop, value}
+use Rattle.model.specs.Result.{Result, Err, Ok}
 use Rattle.model.specs.Runner.{run_from, read_start, run_of}
 use Rattle.model.specs.declared.Instruction.{Instruction}
 use Rattle.model.specs.declared.Instruction.TheVariants.{Set, Add, AddImmediate, Subtract, Load, Store, Jump, JumpLess, JumpEqual, Return, Mask, Shift}
@@ -82,7 +82,7 @@ module _ (policy : Policy) (w : ℕ) (shut : writable_word policy w ≡ false) w
 
 -- the policy of a run is the one in the bytes
 start_policy : (policy_bytes package_bytes registers memory : List ℕ)
-    → Gives (λ (i : Policy × List Instruction). read_policy policy_bytes ≡ value i.0) (read_start policy_bytes package_bytes registers memory)
+    → Gives (λ (i : Policy × List Instruction). read_policy policy_bytes ≡ Ok i.0) (read_start policy_bytes package_bytes registers memory)
 unfolding read_start
 start_policy policy_bytes package_bytes registers memory = gives_next λ _ e. gives_next λ _ _. gives_next λ _ _. gives e
 
@@ -90,9 +90,9 @@ pub kept : Kept
 unfolding Kept Protected run_of
 kept policy_bytes package_bytes registers memory budget w shut = go (read_start policy_bytes package_bytes registers memory) refl
   where
-    go : (r : Result Refusal (Policy × List Instruction)) → read_start policy_bytes package_bytes registers memory ≡ r
+    go : (r : Result (Policy × List Instruction) Refusal) → read_start policy_bytes package_bytes registers memory ≡ r
         → get_elem? (run_of policy_bytes package_bytes registers memory budget).memory w ≡ get_elem? memory w
-    go (stop r) e = rw (e, run_of)
-    go (value (policy, code)) e =
+    go (Err r) e = rw (e, run_of)
+    go (Ok (policy, code)) e =
         let read = gives_value e (start_policy policy_bytes package_bytes registers memory) in
         rw (e, run_of) (run_leaves policy w (shut policy read) code budget 0 (start_of registers memory))

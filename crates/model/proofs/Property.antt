@@ -16,7 +16,7 @@ use Rattle.model.specs.Machine.{State, start_of}
 use Rattle.model.specs.Package.{code_of}
 use Rattle.model.specs.Policy.{Policy, read_policy}
 use Rattle.model.specs.Property.{Words, Returns, Property}
-use Rattle.model.specs.Result.{◌>>=◌, check, found, value}
+use Rattle.model.specs.Result.{◌>>=◌, check, found, Ok}
 use Rattle.model.specs.Routine.{Routine, read_routine}
 use Rattle.model.specs.Runner.{stopped, run_from, read_start, run_of}
 use Rattle.model.specs.Term.{Term, eval, constant, variable}
@@ -172,10 +172,10 @@ module _ (policy : Policy) (routine : Routine) (formed : FormedRoutine routine) 
 -- ---- the runner
 
 module _ (policy_bytes package_bytes : List ℕ) {policy : Policy} {code : List Instruction}
-    (policy_read : read_policy policy_bytes ≡ value policy) (code_read : code_of package_bytes ≡ value code)
+    (policy_read : read_policy policy_bytes ≡ Ok policy) (code_read : code_of package_bytes ≡ Ok code)
     (registers memory : List ℕ) (words : Words policy registers memory) where
   -- the runner's checks pass
-  start_read : read_start policy_bytes package_bytes registers memory ≡ value (policy, code)
+  start_read : read_start policy_bytes package_bytes registers memory ≡ Ok (policy, code)
   unfolding read_start ◌>>=◌ check
   start_read =
       rw (policy_read, eq-eqb (length registers) 16 words.register_count, eq-eqb (length memory) policy.memory words.memory_count, code_read)
@@ -204,7 +204,7 @@ module _ (policy_bytes package_bytes : List ℕ) {policy : Policy} {code : List 
 -- ---- the theorem
 
 inputs_read : (workspace : ℕ) (policy_bytes package_bytes : List ℕ)
-    → Gives (λ (i : Policy × Routine). (read_policy policy_bytes ≡ value i.0) × (read_routine package_bytes ≡ value i.1))
+    → Gives (λ (i : Policy × Routine). (read_policy policy_bytes ≡ Ok i.0) × (read_routine package_bytes ≡ Ok i.1))
     (read_inputs workspace policy_bytes package_bytes)
 unfolding read_inputs
 inputs_read workspace policy_bytes package_bytes = gives_next λ _ _. gives_next λ _ e. gives_next λ _ f. gives (e, f)

@@ -10,11 +10,11 @@ use borrow.Author.Tests.{ltb-true, leb-true}
 use Rattle.model.specs.Annotation.{Annotation, annotation_from, annotations_from, read_annotations}
 use Rattle.model.specs.Atom.{Atom}
 use Rattle.model.specs.Expression.{Form, forms, register_count, Nodes, node_of, nodes_at, expression_at, atom_at, atoms_at, four_byte_constant, two_byte_variable, two_expressions, count_and_expression}
-use Rattle.model.specs.Field.{fault}
+use Rattle.model.specs.declared.ReadError.TheVariants.{Fault}
 use Rattle.model.specs.Instruction.{provided, operations, decode}
 use Rattle.model.specs.Package.{immediate_start, annotation_start, proof_start, most_instructions, read_header, instructions_from, read_code, code_of}
 use Rattle.model.specs.Policy.{Policy, region_fits, sizes_of, region_at, regions_from, read_policy}
-use Rattle.model.specs.Result.{Result, ◌>>=◌, check, misfit, value}
+use Rattle.model.specs.Result.{Result, ◌>>=◌, check, misfit, Ok}
 use Rattle.model.specs.Routine.{Routine, read_routine}
 use Rattle.model.specs.Term.{Term}
 use Rattle.model.specs.Word.{le16, le32, AllBelow}
@@ -53,7 +53,7 @@ module _ (bytes : List ℕ) (end : ℕ) where
   unfolding node_of FormedForm RegisterTerm
   node_formed operand each four_byte_constant w left p = gives_next λ _ _. gives tt
   node_formed operand each two_byte_variable w left p =
-      gives_next λ v _. gives_then (gives_check (ltb v register_count) (fault (p + 1))) λ _ l. gives (ltb-true v register_count l)
+      gives_next λ v _. gives_then (gives_check (ltb v register_count) (Fault (p + 1))) λ _ l. gives (ltb-true v register_count l)
   node_formed operand each (two_expressions operation) w left p =
       gives_then (each (left - 1) (p + 1)) λ s u. gives_then (each s.2 s.1) λ t v. gives (w s.0 t.0 u v)
   node_formed operand each (count_and_expression operation) w left p =
@@ -65,7 +65,7 @@ module _ (bytes : List ℕ) (end : ℕ) where
   nodes_formed (suc depth) left p =
       gives_next λ tag _.
       gives_next λ _ _.
-      gives_then (gives_element tag (fault p) forms_formed) λ form w. node_formed _ (nodes_formed depth) form w left p
+      gives_then (gives_element tag (Fault p) forms_formed) λ form w. node_formed _ (nodes_formed depth) form w left p
 
   expression_formed : (p : ℕ) → Gives (λ (r : Term × ℕ). RegisterTerm r.0) (expression_at bytes end register_count p)
   unfolding expression_at
@@ -87,7 +87,7 @@ module _ (bytes : List ℕ) (end : ℕ) where
 -- ---- the policy
 
 -- check 4 of the memory
-memory_small : (m : ℕ) {u : Unit {0}} → check (leb 1 m && leb m 16384) (PolicySize 4) ≡ value u → m < 2 ^ 32
+memory_small : (m : ℕ) {u : Unit {0}} → check (leb 1 m && leb m 16384) (PolicySize 4) ≡ Ok u → m < 2 ^ 32
 memory_small m e =
     let h = gives_value e (gives_check (leb 1 m && leb m 16384) (PolicySize 4)) in
     omega (arith, leb-true m 16384 (search and_right))
@@ -183,13 +183,13 @@ module _ (bytes : List ℕ) where
     section_formed = gives_then (annotations_formed h.annotations 0 (annotation_start h)) λ r w. gives_next λ _ _. gives w
 
 -- the header and the code once more, as `code_of` reads them
-code_read : (bytes : List ℕ) {h : Header} {code : List Instruction} → read_header bytes ≡ value h → read_code bytes h ≡ value code
-    → code_of bytes ≡ value code
+code_read : (bytes : List ℕ) {h : Header} {code : List Instruction} → read_header bytes ≡ Ok h → read_code bytes h ≡ Ok code
+    → code_of bytes ≡ Ok code
 unfolding code_of ◌>>=◌
-code_read bytes e f = ap (λ (x : Result Refusal Header). x >>= read_code bytes) e ∙ f
+code_read bytes e f = ap (λ (x : Result Header Refusal). x >>= read_code bytes) e ∙ f
 
 pub routine_formed : (bytes : List ℕ) → AllBelow (2 ^ 8) bytes
-    → Gives (λ (r : Routine). FormedRoutine r × (code_of bytes ≡ value r.code)) (read_routine bytes)
+    → Gives (λ (r : Routine). FormedRoutine r × (code_of bytes ≡ Ok r.code)) (read_routine bytes)
 unfolding read_routine read_code
 routine_formed bytes below =
     gives_next λ h e.

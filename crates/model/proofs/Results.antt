@@ -3,38 +3,44 @@ use Prim.Native.Nat.{ℕ}
 use mathlib.Core.Path.{◌≡◌, refl}
 use mathlib.Core.Bool.{Bool, true, false}
 use native.Mathlib.Omega.{arith}
-use Rattle.model.specs.Result.{Result, stop, value, ◌>>=◌, check, stop_as}
+use Rattle.std.specs.Result.{IsErrAnd}
+use Rattle.model.specs.Result.{Result, Err, Ok, ◌>>=◌, check, map_err}
 
 module _ {E A B C : Type 0} where
-  pub then_then : (r : Result E A) (f : A → Result E B) (g : B → Result E C) → (r >>= f >>= g) ≡ (r >>= (λ a. f a >>= g))
+  pub then_then : (r : Result A E) (f : A → Result B E) (g : B → Result C E) → (r >>= f >>= g) ≡ (r >>= (λ a. f a >>= g))
   unfolding ◌>>=◌
-  then_then (stop e) f g = refl
-  then_then (value a) f g = refl
+  then_then (Err e) f g = refl
+  then_then (Ok a) f g = refl
 
 module _ {E A B : Type 0} where
-  pub value_then : (a : A) (f : A → Result E B) → (value a >>= f) ≡ f a
+  pub value_then : (a : A) (f : A → Result B E) → (Ok a >>= f) ≡ f a
   unfolding ◌>>=◌
   value_then a f = refl
 
-  pub then_same : (r : Result E A) {f g : A → Result E B} → ((a : A) → f a ≡ g a) → (r >>= f) ≡ (r >>= g)
+  pub then_same : (r : Result A E) {f g : A → Result B E} → ((a : A) → f a ≡ g a) → (r >>= f) ≡ (r >>= g)
   unfolding ◌>>=◌
-  then_same (stop e) s = refl
-  then_same (value a) s = s a
+  then_same (Err e) s = refl
+  then_same (Ok a) s = s a
 
   -- two steps give a value only if each does
-  pub bound : (r : Result E A) (f : A → Result E B) {b : B} → (r >>= f) ≡ value b → (a : A) × (r ≡ value a) × (f a ≡ value b)
+  pub bound : (r : Result A E) (f : A → Result B E) {b : B} → (r >>= f) ≡ Ok b → (a : A) × (r ≡ Ok a) × (f a ≡ Ok b)
   unfolding ◌>>=◌
-  bound (stop e) f p = let z : ◌≡◌ {A = ℕ} 0 1 = cc in absurd (omega arith)
-  bound (value a) f p = (a, refl, p)
+  bound (Err e) f p = let z : ◌≡◌ {A = ℕ} 0 1 = cc in absurd (omega arith)
+  bound (Ok a) f p = (a, refl, p)
 
 -- a test that is gone past has passed
-pub past_check : {E : Type 0} (t : Bool) (e : E) {u : Unit {0}} → check t e ≡ value u → t ≡ true
+pub past_check : {E : Type 0} (t : Bool) (e : E) {u : Unit {0}} → check t e ≡ Ok u → t ≡ true
 unfolding check
 past_check true e p = refl
 past_check false e p = let z : ◌≡◌ {A = ℕ} 0 1 = cc in absurd (omega arith)
 
 -- a value is the same, whatever a stop would be in other terms
-pub past_stop : {E F A : Type 0} (f : E → F) (r : Result E A) {a : A} → stop_as f r ≡ value a → r ≡ value a
-unfolding stop_as
-past_stop f (stop e) p = let z : ◌≡◌ {A = ℕ} 0 1 = cc in absurd (omega arith)
-past_stop f (value b) p = cc
+pub past_stop : {E F A : Type 0} (f : E → F) (r : Result A E) {a : A} → map_err f r ≡ Ok a → r ≡ Ok a
+unfolding map_err
+past_stop f (Err e) p = let z : ◌≡◌ {A = ℕ} 0 1 = cc in absurd (omega arith)
+past_stop f (Ok b) p = cc
+
+-- a step that stops hands its error on: what the exit of a `?` returns
+pub stopped : {A E : Type 0} (r : Result A E) (e : E) → IsErrAnd r (λ x. x ≡ e) → r ≡ Err e
+stopped (Err x) e h = rw h
+stopped (Ok a) e h = absurd h

@@ -11,13 +11,14 @@ use Rattle.model.specs.Atom.{Atom, less, Compares, holds, Holds, AllHold, eq_ato
 use Rattle.model.specs.Goals.{Claim, Goal, atom, readable, writable}
 use Rattle.model.specs.Linear.{same_form}
 use Rattle.model.specs.Policy.{Policy, may_read, may_write, covers, some_region, readable_word, writable_word, region_fits}
-use Rattle.model.specs.Result.{Fit, ◌>>=◌, check, found, misfit, value}
+use Rattle.model.specs.Result.{Fit, ◌>>=◌, check, found, misfit, Ok}
 use Rattle.model.specs.Rule.{Rule, Format, rules, atom_of, sides_of, readable_of, writable_of, pair_of, sum_of, difference_of, mask_of, shift_of, equal_pairs, congruent, region_premises, premises, from_assumption, equal_reflexive, at_most_reflexive, evaluation, equal_symmetric, equal_transitive, at_most_transitive, less_at_most, at_most_less, at_most_of_less, at_most_of_equal, congruence, linear, zero_at_most, sum_monotone, difference_monotone, successor_at_most, below_successor, sum_no_overflow, less_of_at_most, unequal_of_less, unequal_symmetric, in_readable_region, in_writable_region, contradiction, mask_at_most, shift_at_most, shift_bounded, plain, with_index, with_term, with_region}
 use Rattle.model.specs.Term.{Term, eval, closed, eq_term, constant, variable, sum, difference, mask, shift}
 use Rattle.model.specs.Word.{add_w, sub_w, mask_w, shift_w}
 use Rattle.model.specs.declared.Comparison.{Comparison}
 use Rattle.model.specs.declared.Comparison.TheVariants.{Equal, Unequal, Less, AtMost}
 use Rattle.model.specs.declared.Region.{Region}
+use Rattle.model.specs.declared.Misfit.{Misfit}
 use Rattle.model.proofs.Gives.{Gives, gives_map, gives_check, gives_element, gives, gives_then, stops}
 use Rattle.model.proofs.LinearForm.{linear_sound}
 use Rattle.model.proofs.Lists.{empty, Every, ◌&◌}
@@ -104,7 +105,7 @@ module _ (env : ℕ → ℕ) where
 
 -- region j fits, and where it covers a word and has the right, some region does
 pub region_at_lem : (right : Region → Bool) (memory : ℕ) (regions : List Region) (j : ℕ) → Every (λ r. region_fits memory r ≡ true) regions
-    → Gives {E = Unit {0}}
+    → Gives {E = Misfit}
     (λ r. (region_fits memory r ≡ true) × ((w : ℕ) → covers r w ≡ true → right r ≡ true → some_region right regions w ≡ true))
     (found (get_elem? regions j) misfit)
 unfolding some_region found
@@ -123,7 +124,7 @@ module _ (policy : Policy) (fit : RegionsFit policy) (g : Goal) (env : ℕ → �
   -- a rule over the two sides of a claim: premises that give the comparison of the sides are enough
   by_sides : (kind : Comparison) (c : Claim) (atoms : Term × Term → List Atom)
       → ((s : Term × Term) → AllHold env (atoms s) → Compares kind (eval env s.0) (eval env s.1))
-      → Gives (λ atoms'. AllHold env atoms' → ClaimHolds policy env c) (sides_of kind c >>= λ s. value (atoms s))
+      → Gives (λ atoms'. AllHold env atoms' → ClaimHolds policy env c) (sides_of kind c >>= λ s. Ok (atoms s))
   by_sides kind c atoms k = gives_then (sides policy env kind c) λ s enough. gives (λ p. enough (k s p))
 
   -- a test that two terms are the same, as a step

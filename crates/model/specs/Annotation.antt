@@ -1,10 +1,12 @@
 -- The annotations: their reading with refusals 10 and 11, and the search for the one at an index. Assumes nothing.
 use Rattle.std.specs.Prelude.{ℕ, zero, suc, ◌+◌, true, false, ◌&&◌, List, [], ◌∷◌, leb, ltb, eqb}
 use Rattle.std.proofs.Math.Option.{Option, none, some}
-use Rattle.model.specs.Result.{Result, value, ◌>>=◌, check, stop_as}
+use Rattle.model.specs.Result.{Result, Ok, ◌>>=◌, check, map_err}
 use Rattle.model.specs.Term.{Term}
 use Rattle.model.specs.Atom.{Atom, most_atoms}
-use Rattle.model.specs.Field.{ReadError, missing, fault, byte_at, half_at}
+use Rattle.model.specs.Field.{byte_at, half_at}
+use Rattle.model.specs.declared.ReadError.{ReadError}
+use Rattle.model.specs.declared.ReadError.TheVariants.{Missing, Fault}
 use Rattle.model.specs.Expression.{register_count, expression_at, atoms_at}
 use Rattle.model.specs.Package.{annotation_start, proof_start}
 use Rattle.model.specs.declared.Header.{Header}
@@ -24,15 +26,15 @@ annotation_at (a ∷ rest) index = elim (eqb a.index index) [ true ↦ some a | 
 module _ (bytes : List ℕ) (h : Header) where
   -- "11: a fault as in 6, or annotation bytes missing (section's end)"
   unfoldable pub annotation_refusal : ReadError → Refusal
-  annotation_refusal missing = AnnotationBytes (proof_start h)
-  annotation_refusal (fault p) = AnnotationBytes p
+  annotation_refusal Missing = AnnotationBytes (proof_start h)
+  annotation_refusal (Fault p) = AnnotationBytes p
 
-  abbrev pub annotation_field : {A : Type 0} → Result ReadError A → Result Refusal A
-  annotation_field = stop_as annotation_refusal
+  abbrev pub annotation_field : {A : Type 0} → Result A ReadError → Result A Refusal
+  annotation_field = map_err annotation_refusal
 
   -- "An annotation is an instruction index (2 bytes, strictly rising, below n), an atom count (1 byte, 0 to 16), a credit expression,
   -- the atoms"; its index is `lowest` or more. "10: annotation index or atom count bad", in reading order
-  unfoldable pub annotation_from : (lowest p : ℕ) → Result Refusal (Annotation × ℕ)
+  unfoldable pub annotation_from : (lowest p : ℕ) → Result (Annotation × ℕ) Refusal
   annotation_from lowest p = do
     index ← annotation_field (half_at bytes (proof_start h) p)
     _ ← check (leb lowest index && ltb index h.instructions) (BadAnnotation p)
@@ -40,19 +42,19 @@ module _ (bytes : List ℕ) (h : Header) where
     _ ← check (leb count most_atoms) (BadAnnotation (p + 2))
     (credit, q) ← annotation_field (expression_at bytes (proof_start h) register_count (p + 3))
     (atoms, r) ← annotation_field (atoms_at bytes (proof_start h) register_count count q)
-    value (record { index = index; credit = credit; atoms = atoms }, r)
+    Ok (record { index = index; credit = credit; atoms = atoms }, r)
 
   -- so many annotations, one after the other
-  unfoldable pub annotations_from : (left lowest p : ℕ) → Result Refusal (List Annotation × ℕ)
-  annotations_from zero lowest p = value ([], p)
+  unfoldable pub annotations_from : (left lowest p : ℕ) → Result (List Annotation × ℕ) Refusal
+  annotations_from zero lowest p = Ok ([], p)
   annotations_from (suc left) lowest p = do
     (a, q) ← annotation_from lowest p
     (rest, r) ← annotations_from left (a.index + 1) q
-    value (a ∷ rest, r)
+    Ok (a ∷ rest, r)
 
   -- 11 for spare bytes of the section (the first)
-  unfoldable pub read_annotations : Result Refusal (List Annotation)
+  unfoldable pub read_annotations : Result (List Annotation) Refusal
   read_annotations = do
     (annotations, q) ← annotations_from h.annotations 0 (annotation_start h)
     _ ← check (eqb q (proof_start h)) (AnnotationBytes q)
-    value annotations
+    Ok annotations

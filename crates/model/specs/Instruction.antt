@@ -1,8 +1,7 @@
 -- Decoding of an instruction. Assumes nothing.
-use Rattle.std.specs.Prelude.{ℕ, Bool, true, ◌&&◌, List, [], ◌∷◌, leb, ltb, eqb}
-use Rattle.std.proofs.Math.Option.{Option, none, some}
+use Rattle.std.specs.Prelude.{ℕ, Bool, true, ◌&&◌, List, [], ◌∷◌, leb, ltb, eqb, Option, None, Some}
 use Rattle.std.proofs.Math.ListN.{get_elem?}
-use Rattle.model.specs.Result.{Fit, misfit, value, ◌>>=◌, check, found}
+use Rattle.model.specs.Result.{Fit, misfit, Ok, ◌>>=◌, check, found}
 use Rattle.model.specs.Expression.{most_count}
 use Rattle.model.specs.declared.Instruction.{Instruction}
 use Rattle.model.specs.declared.Instruction.TheVariants.{Set, Add, AddImmediate, Subtract, Load, Store, Jump, JumpLess, JumpEqual, Return, Mask, Shift}
@@ -23,7 +22,7 @@ shift_count i = leb i most_count
 unfoldable pub provided : Bool → Instruction → Fit Instruction
 provided fields instruction = do
   _ ← check fields misfit
-  value instruction
+  Ok instruction
 
 -- for each operation, in the order of their numbers: the instruction with the fields d, a, b and the immediate i
 abbrev pub operations : List (ℕ → ℕ → ℕ → ℕ → Fit Instruction)
@@ -50,19 +49,19 @@ decode op d a b i = do
 
 -- where the instruction may jump
 unfoldable pub target_of : Instruction → Option ℕ
-target_of (Set d i) = none
-target_of (Add d a b) = none
-target_of (AddImmediate d a i) = none
-target_of (Subtract d a b) = none
-target_of (Load d a i) = none
-target_of (Store d a i) = none
-target_of (Jump i) = some i
-target_of (JumpLess a b i) = some i
-target_of (JumpEqual a b i) = some i
-target_of Return = none
-target_of (Mask d a i) = none
-target_of (Shift d a i) = none
+target_of (Set d i) = None
+target_of (Add d a b) = None
+target_of (AddImmediate d a i) = None
+target_of (Subtract d a b) = None
+target_of (Load d a i) = None
+target_of (Store d a i) = None
+target_of (Jump i) = Some i
+target_of (JumpLess a b i) = Some i
+target_of (JumpEqual a b i) = Some i
+target_of Return = None
+target_of (Mask d a i) = None
+target_of (Shift d a i) = None
 
 -- "target n or more" fails
 unfoldable pub target_inside : (n : ℕ) → Instruction → Bool
-target_inside n instruction = elim (target_of instruction) [ none ↦ true | some t ↦ ltb t n ]
+target_inside n instruction = elim (target_of instruction) [ None ↦ true | Some t ↦ ltb t n ]

@@ -1,9 +1,11 @@
 -- The policy: its reading with refusals 3 to 6, and the words that it makes readable and writable. Assumes nothing.
 use Rattle.std.specs.Prelude.{ℕ, zero, suc, ◌+◌, ◌*◌, ◌/◌, ◌%◌, Bool, false, ◌&&◌, ◌||◌, List, [], ◌∷◌, length, leb, ltb, eqb}
-use Rattle.model.specs.Result.{Result, value, ◌>>=◌, check, stop_as}
+use Rattle.model.specs.Result.{Result, Ok, ◌>>=◌, check, map_err}
 use Rattle.model.specs.Word.{le32}
 use Rattle.model.specs.Atom.{Atom, most_atoms}
-use Rattle.model.specs.Field.{ReadError, missing, fault, byte_at, word_at}
+use Rattle.model.specs.Field.{byte_at, word_at}
+use Rattle.model.specs.declared.ReadError.{ReadError}
+use Rattle.model.specs.declared.ReadError.TheVariants.{Missing, Fault}
 use Rattle.model.specs.Expression.{register_count, atoms_at}
 use Rattle.model.specs.declared.Region.{Region}
 use Rattle.model.specs.declared.Sizes.{Sizes}
@@ -56,14 +58,14 @@ region_fits memory r = leb 1 r.rights && leb 1 r.size && leb (r.base + r.size) m
 module _ (bytes : List ℕ) where
   -- "3: bytes missing (place: length)"; 6 for a fault in an atom
   unfoldable pub policy_refusal : ReadError → Refusal
-  policy_refusal missing = PolicyLength (length bytes)
-  policy_refusal (fault p) = PolicyExpression p
+  policy_refusal Missing = PolicyLength (length bytes)
+  policy_refusal (Fault p) = PolicyExpression p
 
-  abbrev pub policy_field : {A : Type 0} → Result ReadError A → Result Refusal A
-  policy_field = stop_as policy_refusal
+  abbrev pub policy_field : {A : Type 0} → Result A ReadError → Result A Refusal
+  policy_field = map_err policy_refusal
 
   -- "4: count, zero byte or M out of range (its first byte)", in reading order
-  unfoldable pub sizes_of : Result Refusal Sizes
+  unfoldable pub sizes_of : Result Sizes Refusal
   sizes_of = do
     regions ← policy_field (byte_at bytes (length bytes) 0)
     _ ← check (leb 1 regions && leb regions most_regions) (PolicySize 0)
@@ -76,7 +78,7 @@ module _ (bytes : List ℕ) where
     memory ← policy_field (word_at bytes (length bytes) 4)
     _ ← check (leb 1 memory && leb memory most_memory) (PolicySize 4)
     limit ← policy_field (word_at bytes (length bytes) 8)
-    value (record { regions = regions; precondition = pre; postcondition = post; memory = memory; limit = limit })
+    Ok (record { regions = regions; precondition = pre; postcondition = post; memory = memory; limit = limit })
 
   -- "two parallel arrays of 4-byte words: the bases, and length times 4 plus rights"
   unfoldable pub region_at : (count j : ℕ) → Region
@@ -86,16 +88,16 @@ module _ (bytes : List ℕ) where
       record { base = base; size = extent / 4; rights = extent % 4 }
 
   -- "5: bad region (its number)": the regions from number j on, so many
-  unfoldable pub regions_from : Sizes → (left j : ℕ) → Result Refusal (List Region)
-  regions_from sizes zero j = value []
+  unfoldable pub regions_from : Sizes → (left j : ℕ) → Result (List Region) Refusal
+  regions_from sizes zero j = Ok []
   regions_from sizes (suc left) j = do
     let r = region_at sizes.regions j
     _ ← check (region_fits sizes.memory r) (BadRegion j)
     rs ← regions_from sizes left (j + 1)
-    value (r ∷ rs)
+    Ok (r ∷ rs)
 
   -- "both region arrays are there before 5 is tested, 5 comes before any atom, spare bytes last"
-  unfoldable pub read_policy : Result Refusal Policy
+  unfoldable pub read_policy : Result Policy Refusal
   read_policy = do
     sizes ← sizes_of
     let atoms = 12 + 8 * sizes.regions
@@ -104,4 +106,4 @@ module _ (bytes : List ℕ) where
     (pre, p) ← policy_field (atoms_at bytes (length bytes) register_count sizes.precondition atoms)
     (post, q) ← policy_field (atoms_at bytes (length bytes) register_count sizes.postcondition p)
     _ ← check (eqb q (length bytes)) (PolicyLength q)
-    value (record { memory = sizes.memory; limit = sizes.limit; regions = regions; precondition = pre; postcondition = post })
+    Ok (record { memory = sizes.memory; limit = sizes.limit; regions = regions; precondition = pre; postcondition = post })

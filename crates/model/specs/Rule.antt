@@ -1,7 +1,7 @@
 -- The rules of derivation: the premises from which each gives a claim. Assumes nothing.
 use Rattle.std.specs.Prelude.{ℕ, ◌+◌, Bool, ◌&&◌, List, [], ◌∷◌, eqb}
 use Rattle.std.proofs.Math.ListN.{get_elem?}
-use Rattle.model.specs.Result.{Fit, misfit, stop, value, ◌>>=◌, check, found}
+use Rattle.model.specs.Result.{Fit, misfit, Err, Ok, ◌>>=◌, check, found}
 use Rattle.model.specs.Word.{shift_w}
 use Rattle.model.specs.Term.{Term, constant, variable, sum, difference, mask, shift, closed, root_of, eq_term}
 use Rattle.model.specs.Atom.{Atom, equal, unequal, less, at_most, holds, tag_of, eq_atom}
@@ -85,32 +85,32 @@ rules =
 -- ---- the parts of a claim and of a term
 
 unfoldable pub atom_of : Claim → Fit Atom
-atom_of (atom a) = value a
-atom_of (readable t) = stop misfit
-atom_of (writable t) = stop misfit
+atom_of (atom a) = Ok a
+atom_of (readable t) = Err misfit
+atom_of (writable t) = Err misfit
 
 -- the two sides of a claim of a kind: a = b, a ≠ b, a < b or a ≤ b
 unfoldable pub sides_of : Comparison → Claim → Fit (Term × Term)
 sides_of kind c = do
   a ← atom_of c
   _ ← check (eqb (tag_of a.kind) (tag_of kind)) misfit
-  value (a.left, a.right)
+  Ok (a.left, a.right)
 
 unfoldable pub readable_of : Claim → Fit Term
-readable_of (atom a) = stop misfit
-readable_of (readable t) = value t
-readable_of (writable t) = stop misfit
+readable_of (atom a) = Err misfit
+readable_of (readable t) = Ok t
+readable_of (writable t) = Err misfit
 
 unfoldable pub writable_of : Claim → Fit Term
-writable_of (atom a) = stop misfit
-writable_of (readable t) = stop misfit
-writable_of (writable t) = value t
+writable_of (atom a) = Err misfit
+writable_of (readable t) = Err misfit
+writable_of (writable t) = Ok t
 
 -- the two operands of a term of the form with a tag: of a sum, of a difference, of a mask
 unfoldable pub pair_of : (tag : ℕ) → Term → Fit (Term × Term)
 pair_of tag t = do
   _ ← check (eqb (root_of t).tag tag) misfit
-  value ((root_of t).first, (root_of t).second)
+  Ok ((root_of t).first, (root_of t).second)
 
 unfoldable pub sum_of : Term → Fit (Term × Term)
 sum_of t = pair_of 2 t
@@ -125,26 +125,26 @@ mask_of t = pair_of 4 t
 unfoldable pub shift_of : Term → Fit (ℕ × Term)
 shift_of t = do
   _ ← check (eqb (root_of t).tag 5) misfit
-  value ((root_of t).number, (root_of t).first)
+  Ok ((root_of t).number, (root_of t).first)
 
 -- a = c, b = d
 unfoldable pub equal_pairs : (a b : Term) → Fit (Term × Term) → Fit (List Atom)
 equal_pairs a b operands = do
   (c, d) ← operands
-  value (equal a c ∷ equal b d ∷ [])
+  Ok (equal a c ∷ equal b d ∷ [])
 
 -- what makes two terms of one operation equal: "a+b = c+d, or a-b = c-d, from a = c, b = d"; "rule 11 covers masks (two premises) and shifts
 -- by one count (one premise)"
 unfoldable pub congruent : Term → Term → Fit (List Atom)
-congruent (constant c) u = stop misfit
-congruent (variable v) u = stop misfit
+congruent (constant c) u = Err misfit
+congruent (variable v) u = Err misfit
 congruent (sum a b) u = equal_pairs a b (sum_of u)
 congruent (difference a b) u = equal_pairs a b (difference_of u)
 congruent (mask a b) u = equal_pairs a b (mask_of u)
 congruent (shift count a) u = do
   (other, c) ← shift_of u
   _ ← check (eqb count other) misfit
-  value (equal a c ∷ [])
+  Ok (equal a c ∷ [])
 
 -- ---- the rules
 
@@ -154,7 +154,7 @@ module _ (policy : Policy) where
   region_premises right j t = do
     r ← found (get_elem? policy.regions j) misfit
     _ ← check (right r) misfit
-    value (at_most (constant r.base) t ∷ less t (constant (r.base + r.size)) ∷ [])
+    Ok (at_most (constant r.base) t ∷ less t (constant (r.base + r.size)) ∷ [])
 
 module _ (policy : Policy) (g : Goal) where
   -- The premises from which the rule gives the claim, in order; no value where it does not fit.
@@ -163,103 +163,103 @@ module _ (policy : Policy) (g : Goal) where
     a ← atom_of c
     b ← found (get_elem? g.assumptions index) misfit
     _ ← check (eq_atom a b) misfit
-    value []
+    Ok []
   premises equal_reflexive c = do
     (a, b) ← sides_of Equal c
     _ ← check (eq_term a b) misfit
-    value []
+    Ok []
   premises at_most_reflexive c = do
     (a, b) ← sides_of AtMost c
     _ ← check (eq_term a b) misfit
-    value []
+    Ok []
   premises evaluation c = do
     a ← atom_of c
     _ ← check (closed a.left && closed a.right && holds (λ v. 0) a) misfit
-    value []
+    Ok []
   premises equal_symmetric c = do
     (a, b) ← sides_of Equal c
-    value (equal b a ∷ [])
+    Ok (equal b a ∷ [])
   premises (equal_transitive m) c = do
     (a, b) ← sides_of Equal c
-    value (equal a m ∷ equal m b ∷ [])
+    Ok (equal a m ∷ equal m b ∷ [])
   premises (at_most_transitive m) c = do
     (a, b) ← sides_of AtMost c
-    value (at_most a m ∷ at_most m b ∷ [])
+    Ok (at_most a m ∷ at_most m b ∷ [])
   premises (less_at_most m) c = do
     (a, b) ← sides_of Less c
-    value (less a m ∷ at_most m b ∷ [])
+    Ok (less a m ∷ at_most m b ∷ [])
   premises (at_most_less m) c = do
     (a, b) ← sides_of Less c
-    value (at_most a m ∷ less m b ∷ [])
+    Ok (at_most a m ∷ less m b ∷ [])
   premises at_most_of_less c = do
     (a, b) ← sides_of AtMost c
-    value (less a b ∷ [])
+    Ok (less a b ∷ [])
   premises at_most_of_equal c = do
     (a, b) ← sides_of AtMost c
-    value (equal a b ∷ [])
+    Ok (equal a b ∷ [])
   premises congruence c = do
     (l, r) ← sides_of Equal c
     congruent l r
   premises linear c = do
     (a, b) ← sides_of Equal c
     _ ← check (same_form a b) misfit
-    value []
+    Ok []
   premises zero_at_most c = do
     (a, b) ← sides_of AtMost c
     _ ← check (eq_term a (constant 0)) misfit
-    value []
+    Ok []
   premises sum_monotone c = do
     (l, r) ← sides_of AtMost c
     (a, b) ← sum_of l
     (p, q) ← sum_of r
-    value (at_most a p ∷ at_most b q ∷ at_most p (sum p q) ∷ [])
+    Ok (at_most a p ∷ at_most b q ∷ at_most p (sum p q) ∷ [])
   premises difference_monotone c = do
     (l, r) ← sides_of AtMost c
     (a, b) ← difference_of l
     (p, q) ← difference_of r
-    value (at_most a p ∷ at_most q b ∷ at_most b a ∷ [])
+    Ok (at_most a p ∷ at_most q b ∷ at_most b a ∷ [])
   premises successor_at_most c = do
     (l, r) ← sides_of AtMost c
     (a, one) ← sum_of l
     _ ← check (eq_term one (constant 1)) misfit
-    value (less a r ∷ [])
+    Ok (less a r ∷ [])
   premises below_successor c = do
     (a, b) ← sides_of AtMost c
-    value (less a (sum b (constant 1)) ∷ [])
+    Ok (less a (sum b (constant 1)) ∷ [])
   premises sum_no_overflow c = do
     (a, r) ← sides_of AtMost c
     (p, b) ← sum_of r
     _ ← check (eq_term a p) misfit
-    value (at_most a (difference (constant 4294967295) b) ∷ [])
+    Ok (at_most a (difference (constant 4294967295) b) ∷ [])
   premises less_of_at_most c = do
     (a, b) ← sides_of Less c
-    value (at_most a b ∷ unequal a b ∷ [])
+    Ok (at_most a b ∷ unequal a b ∷ [])
   premises unequal_of_less c = do
     (a, b) ← sides_of Unequal c
-    value (less a b ∷ [])
+    Ok (less a b ∷ [])
   premises unequal_symmetric c = do
     (a, b) ← sides_of Unequal c
-    value (unequal b a ∷ [])
+    Ok (unequal b a ∷ [])
   premises (in_readable_region j) c = do
     t ← readable_of c
     region_premises policy may_read j t
   premises (in_writable_region j) c = do
     t ← writable_of c
     region_premises policy may_write j t
-  premises (contradiction m) c = value (less m m ∷ [])
+  premises (contradiction m) c = Ok (less m m ∷ [])
   -- "25, a masked with b ≤ b; 26, a shifted ≤ a; 27, a shifted by s ≤ c, one constant whose value is 4294967295 shifted right by s"
   premises mask_at_most c = do
     (l, r) ← sides_of AtMost c
     (a, b) ← mask_of l
     _ ← check (eq_term b r) misfit
-    value []
+    Ok []
   premises shift_at_most c = do
     (l, r) ← sides_of AtMost c
     (count, a) ← shift_of l
     _ ← check (eq_term a r) misfit
-    value []
+    Ok []
   premises shift_bounded c = do
     (l, r) ← sides_of AtMost c
     (count, a) ← shift_of l
     _ ← check (eq_term r (constant (shift_w count 4294967295))) misfit
-    value []
+    Ok []

@@ -1,6 +1,6 @@
 -- The runner's answer, and the registers and memory that it leaves. Assumes nothing.
 use Rattle.std.specs.Prelude.{ℕ, zero, suc, ◌+◌, ◌&&◌, List, length, eqb}
-use Rattle.model.specs.Result.{Result, stop, value, ◌>>=◌, check}
+use Rattle.model.specs.Result.{Result, Err, Ok, ◌>>=◌, check}
 use Rattle.model.specs.Refusal.{number_of, place_of}
 use Rattle.model.specs.Policy.{Policy, read_policy}
 use Rattle.model.specs.Package.{code_of}
@@ -37,21 +37,21 @@ run_from policy code (suc budget) steps s =
     ]
 
 -- "The runner makes checks 3 to 6, 2, 7, 8, 9". "2: registers not 16 words or memory not M words; tested after 6; place 0"
-unfoldable pub read_start : (policy_bytes package_bytes registers memory : List ℕ) → Result Refusal (Policy × List Instruction)
+unfoldable pub read_start : (policy_bytes package_bytes registers memory : List ℕ) → Result (Policy × List Instruction) Refusal
 read_start policy_bytes package_bytes registers memory = do
   policy ← read_policy policy_bytes
   _ ← check (eqb (length registers) 16 && eqb (length memory) policy.memory) (WrongStart)
   code ← code_of package_bytes
-  value (policy, code)
+  Ok (policy, code)
 
 -- "and leaves registers and memory untouched if one refuses", with 0 steps
 unfoldable pub run_of : (policy_bytes package_bytes registers memory : List ℕ) (budget : ℕ) → Run
 run_of policy_bytes package_bytes registers memory budget =
     elim (read_start policy_bytes package_bytes registers memory) [
-      | stop r ↦ record {
+      | Err r ↦ record {
         outcome = record { number = number_of r; place = place_of r; steps = 0 };
         registers = registers;
         memory = memory;
       }
-      | value start ↦ run_from start.0 start.1 budget 0 (start_of registers memory)
+      | Ok start ↦ run_from start.0 start.1 budget 0 (start_of registers memory)
     ]

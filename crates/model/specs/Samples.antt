@@ -1,7 +1,7 @@
 -- The commissioning samples of document 01 that are marked (P), as one list, and samples of document 02, in further lists, that the definitions
 -- evaluate (proofs/Samples). Assumes nothing.
 use Rattle.std.specs.Prelude.{ℕ, ◌/◌, ◌%◌, ◌^◌, Bool, true, ◌&&◌, List, [], ◌∷◌, ◌++◌, length, replicate, eqb}
-use Rattle.model.specs.Result.{◌>>=◌, check, found, stop_as}
+use Rattle.model.specs.Result.{◌>>=◌, check, found, map_err}
 use Rattle.model.specs.Refusal.{number_of, place_of}
 use Rattle.model.specs.Word.{add_w, sub_w, mask_w, shift_w, le16, le32}
 use Rattle.model.specs.Term.{eval, size, closed, eq_term, substitute}
@@ -31,7 +31,7 @@ abbrev pub Answer : Type 0
 Answer = ℕ × ℕ × ℕ
 
 unfoldable pub answer_of : Input → Answer
-unfolding ◌>>=◌ check found stop_as number_of place_of add_w sub_w mask_w shift_w le16 le32 eval size closed eq_term substitute compares holds tag_of eq_atom substitute_atom byte_at half_at word_at node_of nodes_at expression_at atom_at atoms_at some_region readable_word writable_word region_fits policy_refusal sizes_of region_at regions_from read_policy provided decode target_of target_inside read_header instructions_from read_code code_of annotation_at annotation_refusal annotation_from annotations_from read_annotations target_annotated targets_annotated read_routine execute step goals append arrival returning small_enough assign at_target jump branch move landing tracing walk entry_block annotation_block annotation_blocks trace_of constant_of coefficient_of variable_bound variables_below opaque_terms indeterminates same_coefficients same_form atom_of sides_of readable_of writable_of pair_of sum_of difference_of mask_of shift_of equal_pairs congruent region_premises premises proof_refusal rule_at derive_all derive answered judge read_inputs check_of run_from read_start run_of
+unfolding ◌>>=◌ check found map_err number_of place_of add_w sub_w mask_w shift_w le16 le32 eval size closed eq_term substitute compares holds tag_of eq_atom substitute_atom byte_at half_at word_at node_of nodes_at expression_at atom_at atoms_at some_region readable_word writable_word region_fits policy_refusal sizes_of region_at regions_from read_policy provided decode target_of target_inside read_header instructions_from read_code code_of annotation_at annotation_refusal annotation_from annotations_from read_annotations target_annotated targets_annotated read_routine execute step goals append arrival returning small_enough assign at_target jump branch move landing tracing walk entry_block annotation_block annotation_blocks trace_of constant_of coefficient_of variable_bound variables_below opaque_terms indeterminates same_coefficients same_form atom_of sides_of readable_of writable_of pair_of sum_of difference_of mask_of shift_of equal_pairs congruent region_premises premises proof_refusal rule_at derive_all derive answered judge read_inputs check_of run_from read_start run_of
 answer_of (to_checker policy_bytes package_bytes) =
     let v = check_of 16384 policy_bytes package_bytes in
     (v.number, v.place, v.goals)

@@ -1,6 +1,6 @@
 -- The checker's answer, and the workspace that it leaves. Assumes nothing.
 use Rattle.std.specs.Prelude.{ℕ, ◌+◌, true, false, List, length, replicate, leb, eqb}
-use Rattle.model.specs.Result.{Result, stop, value, ◌>>=◌, check}
+use Rattle.model.specs.Result.{Result, Err, Ok, ◌>>=◌, check}
 use Rattle.model.specs.Refusal.{number_of, place_of}
 use Rattle.model.specs.Policy.{Policy, read_policy}
 use Rattle.model.specs.Routine.{Routine, read_routine}
@@ -22,9 +22,9 @@ abbrev pub least_workspace : ℕ
 least_workspace = 16384
 
 -- the refusal as an answer, or what the value leads to; `derived` goals so far
-unfoldable pub answered : {A : Type 0} → Result Refusal A → (derived : ℕ) → (A → Verdict) → Verdict
-answered (stop r) derived k = refusing r derived
-answered (value a) derived k = k a
+unfoldable pub answered : {A : Type 0} → Result A Refusal → (derived : ℕ) → (A → Verdict) → Verdict
+answered (Err r) derived k = refusing r derived
+answered (Ok a) derived k = k a
 
 -- Each goal of the trace is derived as it arises, from position p on, `derived` of them so far.
 -- "Last, 19: proof bytes left (first)"; "0 is accepted, place 0"
@@ -35,12 +35,12 @@ judge bytes policy finish p derived = elim (eqb p (length bytes)) [ true ↦ ver
 judge bytes policy (refuse r) p derived = refusing r derived
 
 -- checks 1 to 12
-unfoldable pub read_inputs : (workspace : ℕ) (policy_bytes package_bytes : List ℕ) → Result Refusal (Policy × Routine)
+unfoldable pub read_inputs : (workspace : ℕ) (policy_bytes package_bytes : List ℕ) → Result (Policy × Routine) Refusal
 read_inputs workspace policy_bytes package_bytes = do
   _ ← check (leb least_workspace workspace) (SmallWorkspace)
   policy ← read_policy policy_bytes
   routine ← read_routine package_bytes
-  value (policy, routine)
+  Ok (policy, routine)
 
 -- the answer for a workspace of so many words
 unfoldable pub check_of : (workspace : ℕ) (policy_bytes package_bytes : List ℕ) → Verdict

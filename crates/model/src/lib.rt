@@ -1,8 +1,11 @@
 // The types that the definitions in specs/ share with code.
 #![tactic(auto)]
 
+mod answers;
+mod conversions;
+
 // The kinds of comparison, in the order of their tags: 0, 1, 2, 3.
-#[derive(Clone, Copy)]
+#[derive(Clone, Copy, PartialEq, Eq)]
 pub enum Comparison {
     Equal,
     Unequal,
@@ -45,6 +48,13 @@ pub struct Region {
     pub base: u32,
     pub size: u32,
     pub rights: u32,
+}
+
+// A right to a word of memory.
+#[derive(Clone, Copy, PartialEq, Eq)]
+pub enum Right {
+    Read,
+    Write,
 }
 
 // The policy's fields before its arrays: how many regions and atoms there are, M, and the step limit N.
@@ -103,6 +113,17 @@ pub enum Refusal {
     BadArgument(usize),
     ProofLeft(usize),
 }
+
+// Why a field of a file cannot be read: its bytes are not all there, or what stands at a place is at fault.
+#[derive(Clone, Copy)]
+pub enum ReadError {
+    Missing,
+    Fault(usize),
+}
+
+// What is looked at has not the form that is asked for.
+#[derive(Clone, Copy)]
+pub struct Misfit;
 
 // The checker's answer.
 #[derive(Clone, Copy)]

@@ -5,8 +5,9 @@ use native.Mathlib.Omega.{arith}
 use lib.Dec.{ltb, leb}
 use lib.ListN.{length}
 use borrow.Author.Tests.{ltb-true, leb-true}
-use Rattle.model.specs.Result.{Fit, value, ◌>>=◌}
-use Rattle.model.specs.Field.{missing, fault, byte_at, half_at, word_at}
+use Rattle.model.specs.Result.{Fit, Ok, ◌>>=◌}
+use Rattle.model.specs.Field.{byte_at, half_at, word_at}
+use Rattle.model.specs.declared.ReadError.TheVariants.{Missing as missing, Fault as fault}
 use Rattle.model.specs.Expression.{most_nodes, Form, four_byte_constant, two_byte_variable, two_expressions, count_and_expression, forms, Nodes, node_of, nodes_at, expression_at}
 use Rattle.model.specs.Derivation.{proof_field, rule_at}
 use Rattle.model.specs.declared.Refusal.{Refusal}
@@ -272,10 +273,10 @@ rule_read bytes variables p =
   where
     argued : (format : Format) → p + 1 ≤ length bytes → FormatBounded variables format → Gives {E = Refusal} (λ (r : Rule × ℕ). RuleBounded variables r.0 × (p < r.1) × (r.1 ≤ length bytes)) (
         elim format [
-          | plain rule ↦ value (rule, p + 1)
-          | with_index rule ↦ proof_field bytes (half_at bytes (length bytes) (p + 1)) >>= λ index. value (rule index, p + 3)
-          | with_term rule ↦ proof_field bytes (expression_at bytes (length bytes) variables (p + 1)) >>= λ (m, q). value (rule m, q)
-          | with_region rule ↦ proof_field bytes (byte_at bytes (length bytes) (p + 1)) >>= λ j. value (rule j, p + 2)
+          | plain rule ↦ Ok (rule, p + 1)
+          | with_index rule ↦ proof_field bytes (half_at bytes (length bytes) (p + 1)) >>= λ index. Ok (rule index, p + 3)
+          | with_term rule ↦ proof_field bytes (expression_at bytes (length bytes) variables (p + 1)) >>= λ (m, q). Ok (rule m, q)
+          | with_region rule ↦ proof_field bytes (byte_at bytes (length bytes) (p + 1)) >>= λ j. Ok (rule j, p + 2)
         ]
         )
     argued (plain rule) h w = gives {a = (rule, p + 1)} (w, omega arith, omega arith)

@@ -40,7 +40,7 @@ module _ {ws : List ℕ} {p : Path} (w : PathIn ws p) where
 
   pub path_variable : p.variables < most_variables → PathIn ws (one_variable p)
   path_variable h = record {
-    prepared = λ n. let q = w.prepared n in record { formed = q.formed; above = q.above; registers = q.registers; most = omega arith; assumed = q.assumed; cleared = q.cleared };
+    prepared = let q = w.prepared in record { formed = q.formed; above = q.above; registers = q.registers; most = omega arith; assumed = q.assumed; cleared = q.cleared };
     sixteen = w.sixteen;
     held = λ v l. node_wider (omega arith) (omega arith) (w.held v l);
     run = w.run;

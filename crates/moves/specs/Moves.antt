@@ -1,5 +1,6 @@
 -- What running one instruction of a path owes: any instruction, and an assignment. Assumes nothing.
 use Rattle.std.specs.Prelude.{◌≡◌, Bool, true, false, List, ℕ, ◌+◌, ◌*◌, ◌≤◌, length}
+use Rattle.model.specs.Result.{Result, Ok, Err}
 use Rattle.model.specs.Term.{Term}
 use Rattle.model.specs.Policy.{Policy}
 use Rattle.model.specs.Package.{most_instructions}
@@ -11,14 +12,16 @@ use Rattle.model.specs.declared.Verdict.{Verdict}
 use Rattle.model.specs.declared.Refusal.TheVariants.{LargeTerm}
 use Rattle.workspace.specs.Layout.{most_assumptions, most_table_nodes, Same, most_variables}
 use Rattle.nodes.specs.Table.{term_at, place}
+use Rattle.setting.specs.declared.Setting.{Setting}
+use Rattle.setting.specs.Setting.{Stands}
 use Rattle.goals.specs.Judging.{Reached}
 use Rattle.paths.specs.Walking.{path_of, raised_to, NodeIn, PathIn, stepped_to, written_to, Kept}
 use Rattle.goals.specs.Room.{goal_room}
 use Rattle.paths.specs.declared.Path.{Path}
+use Rattle.refusals.specs.declared.Refused.{Refused}
 use Rattle.goals.specs.declared.Progress.{Progress}
 use Rattle.moves.specs.declared.Moved.{Moved}
-use Rattle.moves.specs.declared.MovedAnswer.{MovedAnswer}
-use Rattle.moves.specs.declared.MovedAnswer.TheVariants.{On, Ended, Refused}
+use Rattle.moves.specs.declared.Moved.TheVariants.{On, Ended}
 
 -- ---- room
 -- the path is in the words, with room for so many instructions
@@ -50,42 +53,45 @@ pub record Advanced (us : List ℕ) (path after : Path) : Type 0 where
   pub variables : after.variables ≤ path.variables + 1
   pub assumptions : after.assumptions ≤ path.assumptions + 1
 
-abbrev pub Leads : (us bytes : List ℕ) (path after : Path) → MovedAnswer → Type 0
-Leads us bytes path after (On q) = Advanced us path after × Reached bytes q
-Leads us bytes path after (Ended q) = Reached bytes q
-Leads us bytes path after (Refused x derived) = Unit {0}
+abbrev pub Leads : (us bytes : List ℕ) (path : Path) → Result Moved Refused → Type 0
+Leads us bytes path (Ok (On after q)) = Advanced us path after × Reached bytes q
+Leads us bytes path (Ok (Ended q)) = Reached bytes q
+Leads us bytes path (Err x) = Unit {0}
 
 module _ (bytes : List ℕ) (policy : Policy) (routine : Routine) (credit : Term) where
   -- what follows on a path that goes on
   abbrev pub landed : (ModelPath → Trace) → ModelPath → Trace
   landed walks t = landing policy routine credit walks t (annotation_at routine.annotations t.counter)
 
-  -- the checker's answer after an instruction, where `on` follows on the path that goes on, and `rest` after that
-  abbrev pub verdict_moved : MovedAnswer → (on rest : Trace) → Verdict
-  verdict_moved (On q) on rest = judge bytes policy (append on rest) q.at q.goals
-  verdict_moved (Ended q) on rest = judge bytes policy rest q.at q.goals
-  verdict_moved (Refused x derived) on rest = refusing x derived
+  -- the checker's answer after an instruction, where `walks` follows on a path that goes on in the words us, and `rest` after that
+  abbrev pub verdict_moved : (us : List ℕ) → Result Moved Refused → (walks : ModelPath → Trace) (rest : Trace) → Verdict
+  verdict_moved us (Ok (On after q)) walks rest = judge bytes policy (append (landed walks (path_of us after)) rest) q.at q.goals
+  verdict_moved us (Ok (Ended q)) walks rest = judge bytes policy rest q.at q.goals
+  verdict_moved us (Err x) walks rest = refusing x.refusal x.goals
 
-  -- r is what comes of the move m, the path t being the one that goes on, whatever trace follows
-  pub record MoveJudged (m : Move) (p : Progress) (t : ModelPath) (r : MovedAnswer) : Type 0 where
+  -- r is what comes of the move m, whatever trace follows
+  pub record MoveJudged (us : List ℕ) (m : Move) (p : Progress) (r : Result Moved Refused) : Type 0 where
     pub says : (walks : ModelPath → Trace) (rest : Trace)
-        → judge bytes policy (append (tracing policy routine credit walks m) rest) p.at p.goals ≡ verdict_moved r (landed walks t) rest
+        → judge bytes policy (append (tracing policy routine credit walks m) rest) p.at p.goals ≡ verdict_moved us r walks rest
 
 -- what an instruction with the move `what` owes, where policy and routine are as `Where` says
-pub record Moves (ws us bytes : List ℕ) (Where : Policy → Routine → Type 0) (credit : Term) (what : Policy → Routine → Move) (path : Path) (p : Progress) (r : Moved) : Type 0 where
-  pub judged : (policy : Policy) (routine : Routine) → Where policy routine
-      → MoveJudged bytes policy routine credit (what policy routine) p (path_of us r.path) r.answer
+pub record Moves (ws us bytes : List ℕ) (Where : Policy → Routine → Type 0) (credit : Term) (what : Policy → Routine → Move) (path : Path) (p : Progress) (r : Result Moved Refused) : Type 0 where
+  pub judged : (policy : Policy) (routine : Routine) → Where policy routine → MoveJudged bytes policy routine credit us (what policy routine) p r
   pub kept : Kept ws us path
-  pub leads : Leads us bytes path r.path r.answer
+  pub leads : Leads us bytes path r
+
+-- the same where they are those of a setting
+abbrev pub MovesIn : (ws us : List ℕ) → Setting → (credit : Term) → (what : Policy → Routine → Move) → Path → Progress → Result Moved Refused → Type 0
+MovesIn ws us setting credit what path p r = Moves ws us setting.routine.bytes.now (Stands setting) credit what path p r
 
 -- register d takes a node where its term is small enough, and else it is refused
-unfoldable pub assigned_as : Bool → Path → (d node : ℕ) → Progress → Moved
-assigned_as true path d node p = record { path = stepped_to (written_to path d node) (path.counter + 1); answer = On p }
-assigned_as false path d node p = record { path = path; answer = Refused (LargeTerm path.counter) p.goals }
+unfoldable pub assigned_as : Bool → Path → (d node : ℕ) → Progress → Result Moved Refused
+assigned_as true path d node p = Ok (On (stepped_to (written_to path d node) (path.counter + 1)) p)
+assigned_as false path d node p = Err (record { refusal = LargeTerm path.counter; goals = p.goals })
 
 -- an assignment goes by neither policy, routine nor credit
 abbrev pub Anywhere : Policy → Routine → Type 0
 Anywhere policy routine = Unit {0}
 
-pub record Assigns (ws us : List ℕ) (path : Path) (d : ℕ) (t : Term) (p : Progress) (r : Moved) : Type 0 where
+pub record Assigns (ws us : List ℕ) (path : Path) (d : ℕ) (t : Term) (p : Progress) (r : Result Moved Refused) : Type 0 where
   pub moves : (bytes : List ℕ) (credit : Term) → Reached bytes p → Moves ws us bytes Anywhere credit (λ _ _. assign (path_of ws path) d t) path p r

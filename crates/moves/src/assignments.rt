@@ -8,107 +8,105 @@ ghost use Rattle.nodes.specs.Table.{operation_of, term_at, Formed};
 ghost use Rattle.paths.specs.Walking.{path_of};
 ghost use Rattle.moves.specs.Moves.{RoomFor, Built, assigned_as, Assigns};
 
-use crate::{Moved, MovedAnswer};
+use crate::Moved;
 use goals::Progress;
 use model::Refusal;
+use nodes::Operation;
 use paths::Path;
-
-// The operations on two terms, by their tags.
-pub const SUM: u32 = 2;
-
-pub const DIFFERENCE: u32 = 3;
-
-pub const MASK: u32 = 4;
+use refusals::Refused;
 
 // Register d takes the term of a node, if that is small enough, and the path goes on; else it is refused at its counter.
-fn assign(ws: &[u32], path: Path, d: u8, node: usize, progress: Progress) -> Moved
-    requires d_lt_register_count { d < register_count }
-    requires steps_lt_most_instructions { (path.steps < most_instructions) × (path.counter < most_instructions) }
-    requires node_bound { (node < 65536) × Formed ws.now (suc node) }
+fn assign(ws: &[u32], path: Path, d: u8, node: usize, progress: Progress) -> Result<Moved, Refused>
+    requires register { d < register_count }
+    requires may_step { (path.steps < most_instructions) × (path.counter < most_instructions) }
+    requires formed { (node < 65536) × Formed ws.now (suc node) }
     ensures { result ≡ assigned_as (leb (size (term_at ws.now node)) most_term_nodes) path d node progress }
 {
-    if nodes::small(ws, node) {
-        return Moved {
-            path: paths::stepped(paths::written(path, d, node), path.counter + 1),
-            answer: MovedAnswer::On(progress),
-        };
+    if !nodes::small(ws, node) {
+        return Err(Refused {
+            refusal: Refusal::LargeTerm(path.counter),
+            goals: progress.goals,
+        });
     }
-    Moved {
-        path,
-        answer: MovedAnswer::Refused(Refusal::LargeTerm(path.counter), progress.goals),
-    }
+    let after = path.written(d, node).stepped(path.counter + 1);
+    Ok(Moved::On(after, progress))
 }
 
 // d := i
-pub fn set(ws: &mut [u32], path: Path, d: u8, i: u32, progress: Progress) -> Moved
-    requires d_lt_register_count { d < register_count }
+pub fn set(ws: &mut [u32], path: Path, d: u8, i: u32, progress: Progress) -> Result<Moved, Refused>
+    requires register { d < register_count }
     requires room_for { RoomFor ws.old path 1 }
     ensures { Assigns ws.old ws.new path d (constant i) progress result }
 {
     let top = path.top;
     terms::put_constant(ws, top, i);
-    assign(ws, paths::raised(path, top + 1), d, top, progress)
+    assign(ws, path.raised(top + 1), d, top, progress)
 }
 
-// d := a + b, or d := a - b, by the operation's tag
+// d := a + b, or d := a - b
 pub fn combine(
     ws: &mut [u32],
     path: Path,
-    tag: u32,
+    operation: Operation,
     d: u8,
     a: u8,
     b: u8,
     progress: Progress,
-) -> Moved
-    requires d_lt_register_count { (d < register_count) × (a < register_count) × (b < register_count) }
-    requires lt_tag { (1 < tag) × (tag < 5) }
+) -> Result<Moved, Refused>
+    requires registers { (d < register_count) × (a < register_count) × (b < register_count) }
     requires room_for { RoomFor ws.old path 1 }
-    ensures { Assigns ws.old ws.new path d (operation_of tag (term_of (path_of ws.old path) a) (term_of (path_of ws.old path) b)) progress result }
+    ensures { Assigns ws.old ws.new path d (operation_of operation (term_of (path_of ws.old path) a) (term_of (path_of ws.old path) b)) progress result }
 {
     let top = path.top;
-    terms::put_pair(ws, top, tag, paths::node(path, a), paths::node(path, b));
-    assign(ws, paths::raised(path, top + 1), d, top, progress)
+    terms::put_pair(ws, top, operation, path.node(a), path.node(b));
+    assign(ws, path.raised(top + 1), d, top, progress)
 }
 
-// Puts a constant i and the operation of a tag on register a's term and it above the path's top.
-pub fn put_with(ws: &mut [u32], path: Path, tag: u32, a: u8, i: u32)
-    requires a_lt_register_count { a < register_count }
-    requires lt_tag { (1 < tag) × (tag < 5) }
+// Puts a constant i and the operation on register a's term and it above the path's top.
+pub fn put_with(ws: &mut [u32], path: Path, operation: Operation, a: u8, i: u32)
+    requires register { a < register_count }
     requires room_for { RoomFor ws.old path 1 }
-    ensures { Built ws.old ws.new path 2 (path.top + 1) (operation_of tag (term_of (path_of ws.old path) a) (constant i)) }
+    ensures { Built ws.old ws.new path 2 (path.top + 1) (operation_of operation (term_of (path_of ws.old path) a) (constant i)) }
 {
     let top = path.top;
     terms::put_constant(ws, top, i);
-    terms::put_pair(ws, top + 1, tag, paths::node(path, a), top);
+    terms::put_pair(ws, top + 1, operation, path.node(a), top);
 }
 
-// d := a + i, or d := a masked with i, by the operation's tag
+// d := a + i, or d := a masked with i
 pub fn combine_immediate(
     ws: &mut [u32],
     path: Path,
-    tag: u32,
+    operation: Operation,
     d: u8,
     a: u8,
     i: u32,
     progress: Progress,
-) -> Moved
-    requires d_lt_register_count { (d < register_count) × (a < register_count) }
-    requires lt_tag { (1 < tag) × (tag < 5) }
+) -> Result<Moved, Refused>
+    requires registers { (d < register_count) × (a < register_count) }
     requires room_for { RoomFor ws.old path 1 }
-    ensures { Assigns ws.old ws.new path d (operation_of tag (term_of (path_of ws.old path) a) (constant i)) progress result }
+    ensures { Assigns ws.old ws.new path d (operation_of operation (term_of (path_of ws.old path) a) (constant i)) progress result }
 {
     let top = path.top;
-    put_with(ws, path, tag, a, i);
-    assign(ws, paths::raised(path, top + 2), d, top + 1, progress)
+    put_with(ws, path, operation, a, i);
+    assign(ws, path.raised(top + 2), d, top + 1, progress)
 }
 
 // d := a shifted right by i
-pub fn shift(ws: &mut [u32], path: Path, d: u8, a: u8, i: u32, progress: Progress) -> Moved
-    requires d_lt_register_count { (d < register_count) × (a < register_count) × (i ≤ most_count) }
+pub fn shift(
+    ws: &mut [u32],
+    path: Path,
+    d: u8,
+    a: u8,
+    i: u32,
+    progress: Progress,
+) -> Result<Moved, Refused>
+    requires registers { (d < register_count) × (a < register_count) }
+    requires count { i ≤ most_count }
     requires room_for { RoomFor ws.old path 1 }
     ensures { Assigns ws.old ws.new path d (shift_of i (term_of (path_of ws.old path) a)) progress result }
 {
     let top = path.top;
-    terms::put_shift(ws, top, i, paths::node(path, a));
-    assign(ws, paths::raised(path, top + 1), d, top, progress)
+    terms::put_shift(ws, top, i, path.node(a));
+    assign(ws, path.raised(top + 1), d, top, progress)
 }

@@ -2,14 +2,17 @@
 use mathlib.Core.Path.{◌≡◌, refl, sym, ◌∙◌}
 use mathlib.Core.Bool.{Bool, true, false, ◌&&◌}
 use mathlib.Core.List.{List}
-use Prim.Native.Nat.{ℕ, zero, suc, ◌+◌, ◌*◌, ◌/◌, ◌%◌, ◌<◌, ◌≤◌}
+use Prim.Native.Nat.{ℕ, suc, ◌+◌, ◌/◌, ◌%◌, ◌<◌}
 use native.Mathlib.Omega.{arith}
 use native.Mathlib.Decide.{dec_lt}
 use lib.Dec.{eqb, leb}
 use borrow.Author.Tests.{le-leb, lt-leb}
 use Rattle.model.specs.Term.{Term, constant, variable, sum, difference, mask, shift, eval, size, closed, root_of}
-use Rattle.nodes.specs.Table.{low, value_at, marks_at, valued_at, operation_of, term_at, plain, pair_value, bit, size_cap, capped, facts_of, value_of, Marked, Formed}
-use Rattle.nodes.proofs.Table.{at_operation, marks_here, value_here}
+use Rattle.std.specs.Int.{from_bool}
+use Rattle.nodes.specs.declared.Operation.{Operation}
+use Rattle.nodes.specs.declared.Operation.TheVariants.{Sum, Difference, Mask}
+use Rattle.nodes.specs.Table.{low, value_at, marks_at, valued_at, operation_of, term_at, plain, pair_value, size_cap, capped, facts_of, holds_of, value_of, Marked, Formed}
+use Rattle.nodes.proofs.Table.{marks_here, value_here}
 
 -- ---- what marks say
 tag_bound : (t : Term) → (root_of t).tag < 6
@@ -20,54 +23,44 @@ tag_bound (difference s t) = omega arith
 tag_bound (mask s t) = omega arith
 tag_bound (shift count s) = omega arith
 
-bit_bound : (b : Bool) → bit b < 2
+pub bit_bound : (b : Bool) → from_bool b < 2
 bit_bound true = omega arith
 bit_bound false = omega arith
 
-pub bit_both : (a b : Bool) → bit (a && b) ≡ bit a * bit b
-bit_both true true = refl
-bit_both true false = refl
-bit_both false b = omega arith
-
-pub bits_product : (x y : ℕ) → x < 2 → y < 2 → x * y < 2
-bits_product zero y h k = omega arith
-bits_product (suc zero) y h k = omega arith
-bits_product (suc (suc x)) y h k = absurd (omega arith)
-
-capped_over : (n : ℕ) → size_cap ≤ n → capped n ≡ size_cap
-capped_over n h = omega arith
-
-capped_under : (n : ℕ) → n ≤ size_cap → capped n ≡ n
-capped_under n h = omega arith
+bit_is : (b : Bool) → eqb (from_bool b) 1 ≡ b
+bit_is true = refl
+bit_is false = refl
 
 -- sizes may be capped before they are added
 pub capped_sum : (a b : ℕ) → capped (a + b + 1) ≡ capped (capped a + capped b + 1)
-capped_sum a b = go (dec_lt size_cap a) (dec_lt size_cap b)
-  where
-    go : Dec (size_cap < a) → Dec (size_cap < b) → capped (a + b + 1) ≡ capped (capped a + capped b + 1)
-    go (yes h) k = rw (capped_over (a + b + 1) (omega arith), capped_over a (omega arith), capped_over (size_cap + capped b + 1) (omega arith))
-    go (no h) (yes k) = rw (capped_over (a + b + 1) (omega arith), capped_over b (omega arith), capped_over (capped a + size_cap + 1) (omega arith))
-    go (no h) (no k) = rw (capped_under a (omega arith), capped_under b (omega arith))
+capped_sum a b = omega arith
 
 pub capped_suc : (a : ℕ) → capped (a + 1) ≡ capped (capped a + 1)
-capped_suc a = go (dec_lt size_cap a)
-  where
-    go : Dec (size_cap < a) → capped (a + 1) ≡ capped (capped a + 1)
-    go (yes h) = rw (capped_over (a + 1) (omega arith), capped_over a (omega arith), capped_over (size_cap + 1) (omega arith))
-    go (no h) = rw (capped_under a (omega arith))
+capped_suc a = omega arith
 
+-- the marks m of a term
 module _ (m : ℕ) (t : Term) (e : low m ≡ facts_of t) where
-  pub closed_bit : m / 8 % 2 ≡ bit (closed t)
+  pub tag_bit : m % 8 ≡ (root_of t).tag
   unfolding facts_of
-  closed_bit = omega (arith, e, tag_bound t, bit_bound (closed t), bit_bound (closed t && plain t), bit_bound (plain t))
+  tag_bit = omega (arith, e, tag_bound t, bit_bound (closed t), bit_bound (closed t && plain t), bit_bound (plain t))
 
-  pub valued_bit : m / 16 % 2 ≡ bit (closed t && plain t)
+  pub closed_bit : eqb (m / 8 % 2) 1 ≡ closed t
   unfolding facts_of
-  valued_bit = omega (arith, e, tag_bound t, bit_bound (closed t), bit_bound (closed t && plain t), bit_bound (plain t))
+  closed_bit =
+      let b : m / 8 % 2 ≡ from_bool (closed t) = omega (arith, e, tag_bound t, bit_bound (closed t), bit_bound (closed t && plain t), bit_bound (plain t)) in
+      rw b (bit_is (closed t))
 
-  pub plain_bit : m / 32 % 2 ≡ bit (plain t)
+  pub valued_bit : eqb (m / 16 % 2) 1 ≡ (closed t && plain t)
   unfolding facts_of
-  plain_bit = omega (arith, e, tag_bound t, bit_bound (closed t), bit_bound (closed t && plain t), bit_bound (plain t))
+  valued_bit =
+      let b : m / 16 % 2 ≡ from_bool (closed t && plain t) = omega (arith, e, tag_bound t, bit_bound (closed t), bit_bound (closed t && plain t), bit_bound (plain t)) in
+      rw b (bit_is (closed t && plain t))
+
+  pub plain_bit : eqb (m / 32 % 2) 1 ≡ plain t
+  unfolding facts_of
+  plain_bit =
+      let b : m / 32 % 2 ≡ from_bool (plain t) = omega (arith, e, tag_bound t, bit_bound (closed t), bit_bound (closed t && plain t), bit_bound (plain t)) in
+      rw b (bit_is (plain t))
 
   pub size_in : low m / 64 ≡ capped (size t)
   unfolding facts_of
@@ -80,26 +73,21 @@ module _ (m : ℕ) (t : Term) (e : low m ≡ facts_of t) where
       go (yes h) = rw (lt-leb (capped (size t)) n (omega arith), lt-leb (size t) n h)
       go (no h) = rw (le-leb (capped (size t)) n (omega arith), le-leb (size t) n (omega arith))
 
-bit_is : (b : Bool) → eqb (bit b) 1 ≡ b
-bit_is true = refl
-bit_is false = refl
-
 module _ {ws : List ℕ} {i : ℕ} (k : Marked ws i) where
   pub tag_at : marks_at ws i % 8 ≡ (root_of (term_at ws i)).tag
-  unfolding facts_of
-  tag_at = omega (arith, k.facts, tag_bound (term_at ws i), bit_bound (closed (term_at ws i)), bit_bound (closed (term_at ws i) && plain (term_at ws i)), bit_bound (plain (term_at ws i)))
+  tag_at = tag_bit (marks_at ws i) (term_at ws i) k.facts
 
-  pub valued_at_lem : valued_at ws i ≡ (closed (term_at ws i) && plain (term_at ws i))
-  valued_at_lem = rw (valued_bit (marks_at ws i) (term_at ws i) k.facts) (bit_is (closed (term_at ws i) && plain (term_at ws i)))
+  pub valued_at_lem : valued_at ws i ≡ holds_of (term_at ws i)
+  valued_at_lem = valued_bit (marks_at ws i) (term_at ws i) k.facts
 
   pub plain_at : eqb (marks_at ws i / 32 % 2) 1 ≡ plain (term_at ws i)
-  plain_at = rw (plain_bit (marks_at ws i) (term_at ws i) k.facts) (bit_is (plain (term_at ws i)))
+  plain_at = plain_bit (marks_at ws i) (term_at ws i) k.facts
 
   pub closed_at : eqb (marks_at ws i / 8 % 2) 1 ≡ closed (term_at ws i)
-  closed_at = rw (closed_bit (marks_at ws i) (term_at ws i) k.facts) (bit_is (closed (term_at ws i)))
+  closed_at = closed_bit (marks_at ws i) (term_at ws i) k.facts
 
 -- ---- the value that is kept
-module _ (t : Term) (b : Bool) (h : (closed t && plain t) ≡ b) where
+module _ (t : Term) (b : Bool) (h : holds_of t ≡ b) where
   pub kept_value : b ≡ true → value_of t ≡ eval (λ v. 0) t
   unfolding value_of
   kept_value e = rw (h, e) (omega arith)
@@ -117,6 +105,8 @@ module _ {ws : List ℕ} {i : ℕ} (f : Formed ws (suc i)) where
   value_is_kept h = value_here f ∙ kept_value (term_at ws i) (valued_at ws i) (sym (valued_at_lem (marks_here f.shaped))) h
 
 -- ---- the value of a term by those of its parts
-pub pair_eval : (tag : ℕ) (s t : Term) → 1 < tag → eval (λ v. 0) (operation_of tag s t) ≡ pair_value tag (eval (λ v. 0) s) (eval (λ v. 0) t)
+pub pair_eval : (o : Operation) (s t : Term) → eval (λ v. 0) (operation_of o s t) ≡ pair_value o (eval (λ v. 0) s) (eval (λ v. 0) t)
 unfolding eval
-pair_eval tag s t = at_operation (λ tag. eval (λ v. 0) (operation_of tag s t) ≡ pair_value tag (eval (λ v. 0) s) (eval (λ v. 0) t)) refl refl refl (λ tag. refl) tag
+pair_eval Sum s t = refl
+pair_eval Difference s t = refl
+pair_eval Mask s t = refl

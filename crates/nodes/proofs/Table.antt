@@ -1,6 +1,6 @@
 -- Laws of the term table. Assumes nothing.
 use mathlib.Core.Path.{◌≡◌, refl, sym, ap, ap₂, subst, ◌∙◌}
-use mathlib.Core.Logic.{⊎_elim, ◌≢◌}
+use mathlib.Core.Logic.{⊎_elim}
 use mathlib.Core.List.{List, []}
 use Prim.Native.Nat.{ℕ, zero, suc, ◌+◌, ◌*◌, ◌%◌, ◌<◌, ◌≤◌}
 use native.Mathlib.Nat.{eq-or-lt_of_le, le_of_suc-le-suc, not-suc-le-zero}
@@ -8,49 +8,39 @@ use native.Mathlib.Numerals.{add-one}
 use native.Mathlib.Omega.{arith}
 use lib.ListN.{length, get_or, length-append, get_or-append}
 use lib.Seq.{get_or_at}
-use Rattle.model.specs.Term.{Term, constant, sum, difference, mask, shift}
+use Rattle.model.specs.Term.{constant, shift}
 use Rattle.model.specs.Verdict.{least_workspace}
 use Rattle.workspace.specs.Layout.{table_base, most_table_nodes, Same, stored}
 use Rattle.nodes.specs.Table.{low, high, place, parts_at, value_at, marks_at, node_of_tag, view_of, build, operation_of, terms_below, term_at, term_of, value_of, InOrder, Marked, Shaped, Formed, Put, Space, Fits, Twinned}
 use Rattle.nodes.specs.declared.Node.{Node}
-use Rattle.nodes.specs.declared.Node.TheVariants.{Constant, Variable, Sum, Difference, Mask, Shift}
+use Rattle.nodes.specs.declared.Node.TheVariants.{Constant, Variable, Pair, Shift}
 use Rattle.workspace.proofs.Frames.{same_trans, same_within, stored_length, stored_before, stored_first, stored_second, stored_third}
 
--- ---- one node
--- what holds of each tag of an operation: 2, 3 and 4, and those above, which are a shift's
-pub at_operation : (P : ℕ → Type 0) → P 2 → P 3 → P 4 → ((t : ℕ) → P (suc (suc (suc (suc (suc t)))))) → (t : ℕ) → 1 < t → P t
-at_operation P a b c d zero h = absurd (omega arith)
-at_operation P a b c d (suc zero) h = absurd (omega arith)
-at_operation P a b c d (suc (suc zero)) h = a
-at_operation P a b c d (suc (suc (suc zero))) h = b
-at_operation P a b c d (suc (suc (suc (suc zero)))) h = c
-at_operation P a b c d (suc (suc (suc (suc (suc t))))) h = d t
-
--- of each tag of two parts
-pub at_pair : (P : ℕ → Type 0) → P 2 → P 3 → P 4 → (t : ℕ) → (1 < t) × (t < 5) → P t
-at_pair P a b c t h = at_operation (λ t. t < 5 → P t) (λ k. a) (λ k. b) (λ k. c) (λ t k. absurd (omega arith)) t h.0 h.1
-
--- of each tag of a shift
-pub at_shift : (P : ℕ → Type 0) → ((t : ℕ) → P (suc (suc (suc (suc (suc t)))))) → (t : ℕ) → 4 < t → P t
-at_shift P d t h = at_operation (λ t. 4 < t → P t) (λ k. absurd (omega arith)) (λ k. absurd (omega arith)) (λ k. absurd (omega arith)) (λ t k. d t) t (omega arith) h
-
+-- a tag above those of the operations is a shift's
 pub shift_tag : (t p v : ℕ) → 4 < t → node_of_tag t p v ≡ Shift (high p) (low p)
-shift_tag t p v = at_shift (λ t. node_of_tag t p v ≡ Shift (high p) (low p)) (λ t. refl) t
-
--- the term of a pair
-pub pair_built : (f : ℕ → Term) (t p v : ℕ) → (1 < t) × (t < 5) → build f (node_of_tag t p v) ≡ operation_of t (f (low p)) (f (high p))
-pair_built f t p v = at_pair (λ t. build f (node_of_tag t p v) ≡ operation_of t (f (low p)) (f (high p))) refl refl refl t
-
--- a tag that is none of the others
-pub other_tag : (t : ℕ) → t ≢ 0 → t ≢ 1 → t ≢ 2 → t ≢ 3 → t ≢ 4 → 4 < t
-other_tag t a b c d e = omega arith
+shift_tag zero p v h = absurd (omega arith)
+shift_tag (suc zero) p v h = absurd (omega arith)
+shift_tag (suc (suc zero)) p v h = absurd (omega arith)
+shift_tag (suc (suc (suc zero))) p v h = absurd (omega arith)
+shift_tag (suc (suc (suc (suc zero)))) p v h = absurd (omega arith)
+shift_tag (suc (suc (suc (suc (suc t))))) p v h = refl
 
 -- the parts of an operation come before it
-pub first_before : (i t p v : ℕ) → 1 < t → InOrder i (node_of_tag t p v) → low p < i
-first_before i t p v = at_operation (λ t. InOrder i (node_of_tag t p v) → low p < i) (λ o. o.0) (λ o. o.0) (λ o. o.0) (λ t o. o) t
+first_before : (i t p v : ℕ) → 1 < t → InOrder i (node_of_tag t p v) → low p < i
+first_before i zero p v h b = absurd (omega arith)
+first_before i (suc zero) p v h b = absurd (omega arith)
+first_before i (suc (suc zero)) p v h b = b.0
+first_before i (suc (suc (suc zero))) p v h b = b.0
+first_before i (suc (suc (suc (suc zero)))) p v h b = b.0
+first_before i (suc (suc (suc (suc (suc t))))) p v h b = b
 
-pub second_before : (i t p v : ℕ) → (1 < t) × (t < 5) → InOrder i (node_of_tag t p v) → high p < i
-second_before i t p v = at_pair (λ t. InOrder i (node_of_tag t p v) → high p < i) (λ o. o.1) (λ o. o.1) (λ o. o.1) t
+second_before : (i t p v : ℕ) → (1 < t) × (t < 5) → InOrder i (node_of_tag t p v) → high p < i
+second_before i zero p v h b = absurd (omega arith)
+second_before i (suc zero) p v h b = absurd (omega arith)
+second_before i (suc (suc zero)) p v h b = b.1
+second_before i (suc (suc (suc zero))) p v h b = b.1
+second_before i (suc (suc (suc (suc zero)))) p v h b = b.1
+second_before i (suc (suc (suc (suc (suc t))))) p v h b = absurd (omega arith)
 
 -- ---- the terms of a table
 length_terms : (ws : List ℕ) (n : ℕ) → length (terms_below ws n) ≡ n
@@ -70,9 +60,7 @@ terms_at ws (suc n) i h =
 build_in_order : (ws : List ℕ) (i : ℕ) (n : Node) → InOrder i n → build (λ j. get_or (terms_below ws i) j (constant 0)) n ≡ build (term_at ws) n
 build_in_order ws i (Constant n) b = refl
 build_in_order ws i (Variable v) b = refl
-build_in_order ws i (Sum l r) b = ap₂ sum (terms_at ws i l b.0) (terms_at ws i r b.1)
-build_in_order ws i (Difference l r) b = ap₂ difference (terms_at ws i l b.0) (terms_at ws i r b.1)
-build_in_order ws i (Mask l r) b = ap₂ mask (terms_at ws i l b.0) (terms_at ws i r b.1)
+build_in_order ws i (Pair o l r) b = ap₂ (operation_of o) (terms_at ws i l b.0) (terms_at ws i r b.1)
 build_in_order ws i (Shift count l) b = ap (shift count) (terms_at ws i l b)
 
 -- a node's term is built of its parts' terms
@@ -117,15 +105,15 @@ module _ {ws : List ℕ} {i : ℕ} (f : Shaped ws (suc i)) where
   unfolding view_of
   second_part q e h = rw e (second_before i (marks_at ws i % 8) (parts_at ws i) (value_at ws i) (omega arith, omega arith) order_here)
 
--- as an arm of `match view(..)` knows it
+  -- as an arm of `match view(..)` knows it
+  module _ {n : Node} (e : n ≡ view_of ws i) where
+    pub node_order : InOrder i n
+    node_order = subst (InOrder i) (sym e) order_here
+
+    pub node_built : term_at ws i ≡ build (term_at ws) n
+    node_built = built_here ∙ ap (build (term_at ws)) (sym e)
+
 module _ {ws : List ℕ} {i : ℕ} (f : Formed ws (suc i)) where
-  module _ {n m : Node} (e : n ≡ view_of ws i) (a : n ≡ m) where
-    pub node_order : InOrder i m
-    node_order = subst (InOrder i) (sym e ∙ a) (order_here f.shaped)
-
-    pub node_built : term_at ws i ≡ build (term_at ws) m
-    node_built = built_here f.shaped ∙ ap (build (term_at ws)) (sym e ∙ a)
-
   pub value_here : value_at ws i ≡ value_of (term_at ws i)
   value_here = f.values i (omega arith)
 
@@ -179,9 +167,7 @@ module _ {ws us : List ℕ} where
   build_same : (n : ℕ) → Same table_base (place n) ws us → (o : Node) → InOrder n o → build (term_at us) o ≡ build (term_at ws) o
   build_same n s (Constant v) b = refl
   build_same n s (Variable v) b = refl
-  build_same n s (Sum l r) b = ap₂ sum (term_same n s l b.0) (term_same n s r b.1)
-  build_same n s (Difference l r) b = ap₂ difference (term_same n s l b.0) (term_same n s r b.1)
-  build_same n s (Mask l r) b = ap₂ mask (term_same n s l b.0) (term_same n s r b.1)
+  build_same n s (Pair o l r) b = ap₂ (operation_of o) (term_same n s l b.0) (term_same n s r b.1)
   build_same n s (Shift count l) b = ap (shift count) (term_same n s l b)
 
 -- of each of the first nodes, and of one more

@@ -1,12 +1,15 @@
 -- The term table: node i lies in three words: its parts, its value and its marks. Assumes nothing.
-use Rattle.std.specs.Prelude.{◌≡◌, ◌⊎◌, Bool, true, false, ◌&&◌, List, [], ◌∷◌, ◌++◌, ℕ, zero, suc, ◌+◌, ◌-◌, ◌*◌, ◌/◌, ◌%◌, ◌<◌, ◌≤◌, length, get_or, eqb}
+use Rattle.std.specs.Prelude.{◌≡◌, ◌⊎◌, Bool, true, false, ◌&&◌, List, [], ◌∷◌, ◌++◌, ℕ, zero, suc, ◌+◌, ◌*◌, ◌/◌, ◌%◌, ◌<◌, ◌≤◌, min, length, get_or, eqb}
+use Rattle.std.specs.Int.{from_bool}
 use Rattle.model.specs.Term.{Term, constant, variable, sum, difference, mask, shift, eval, size, closed, root_of}
 use Rattle.model.specs.Word.{add_w, sub_w, mask_w}
 use Rattle.model.specs.Verdict.{least_workspace}
 use Rattle.model.specs.Goals.{most_term_nodes}
 use Rattle.workspace.specs.Layout.{most_variables, table_base, most_table_nodes, hint_base, Same}
 use Rattle.nodes.specs.declared.Node.{Node}
-use Rattle.nodes.specs.declared.Node.TheVariants.{Constant, Variable, Sum, Difference, Mask, Shift}
+use Rattle.nodes.specs.declared.Node.TheVariants.{Constant, Variable, Pair, Shift}
+use Rattle.nodes.specs.declared.Operation.{Operation}
+use Rattle.nodes.specs.declared.Operation.TheVariants.{Sum, Difference, Mask}
 
 -- the lower and the upper half of a word
 abbrev pub low : ℕ → ℕ
@@ -33,13 +36,31 @@ marks_at ws i = get_or ws (place i + 2) 0
 abbrev pub valued_at : List ℕ → ℕ → Bool
 valued_at ws i = eqb (marks_at ws i / 16 % 2) 1
 
+-- the tag of an operation's nodes
+abbrev pub operation_tag : Operation → ℕ
+operation_tag Sum = 2
+operation_tag Difference = 3
+operation_tag Mask = 4
+
+-- whether a linear form goes into the operation's parts
+abbrev pub linear : Operation → Bool
+linear Sum = true
+linear Difference = true
+linear Mask = false
+
+-- an operation on two terms
+abbrev pub operation_of : Operation → Term → Term → Term
+operation_of Sum = sum
+operation_of Difference = difference
+operation_of Mask = mask
+
 -- the node that a tag, parts and a value say
 abbrev pub node_of_tag : (tag parts value : ℕ) → Node
 node_of_tag zero p v = Constant v
 node_of_tag (suc zero) p v = Variable p
-node_of_tag (suc (suc zero)) p v = Sum (low p) (high p)
-node_of_tag (suc (suc (suc zero))) p v = Difference (low p) (high p)
-node_of_tag (suc (suc (suc (suc zero)))) p v = Mask (low p) (high p)
+node_of_tag (suc (suc zero)) p v = Pair Sum (low p) (high p)
+node_of_tag (suc (suc (suc zero))) p v = Pair Difference (low p) (high p)
+node_of_tag (suc (suc (suc (suc zero)))) p v = Pair Mask (low p) (high p)
 node_of_tag (suc (suc (suc (suc (suc t))))) p v = Shift (high p) (low p)
 
 -- node i of the words ws: the tag is the marks' remainder by 8
@@ -50,9 +71,7 @@ view_of ws i = node_of_tag (marks_at ws i % 8) (parts_at ws i) (value_at ws i)
 abbrev pub build : (ℕ → Term) → Node → Term
 build f (Constant c) = constant c
 build f (Variable v) = variable v
-build f (Sum l r) = sum (f l) (f r)
-build f (Difference l r) = difference (f l) (f r)
-build f (Mask l r) = mask (f l) (f r)
+build f (Pair o l r) = operation_of o (f l) (f r)
 build f (Shift count part) = shift count (f part)
 
 -- the terms of the first n nodes
@@ -64,21 +83,11 @@ terms_below ws (suc n) = terms_below ws n ++ (build (λ j. get_or (terms_below w
 unfoldable pub term_at : List ℕ → ℕ → Term
 term_at ws i = get_or (terms_below ws (suc i)) i (constant 0)
 
--- the operation of a tag on two terms: 2 is a sum, 3 a difference, 4 a mask
-abbrev pub operation_of : (tag : ℕ) → Term → Term → Term
-operation_of zero = sum
-operation_of (suc zero) = sum
-operation_of (suc (suc zero)) = sum
-operation_of (suc (suc (suc zero))) = difference
-operation_of (suc (suc (suc (suc t)))) = mask
-
 -- node i is in order: its parts come before it, and a variable is below the bound
 abbrev pub InOrder : ℕ → Node → Type 0
 InOrder i (Constant c) = Unit {0}
 InOrder i (Variable v) = v < most_variables
-InOrder i (Sum l r) = (l < i) × (r < i)
-InOrder i (Difference l r) = (l < i) × (r < i)
-InOrder i (Mask l r) = (l < i) × (r < i)
+InOrder i (Pair o l r) = (l < i) × (r < i)
 InOrder i (Shift count part) = part < i
 
 -- ---- what is kept beside a node, so that no walk is needed
@@ -91,32 +100,33 @@ plain (difference s t) = plain s && plain t
 plain (mask s t) = false
 plain (shift count s) = false
 
-abbrev pub bit : Bool → ℕ
-bit true = 1
-bit false = 0
-
 -- a size, up to one more than a register's term may have
 abbrev pub size_cap : ℕ
 size_cap = most_term_nodes + 1
 
 abbrev pub capped : ℕ → ℕ
-capped n = size_cap - (size_cap - n)
+capped n = min n size_cap
 
--- the facts of a term: its tag, whether it is closed, whether it is so and plain, whether it is plain, and its size
+-- the facts of a term in one number: its tag, whether it is closed, whether it is so and plain, whether it is plain, and its size
+abbrev pub facts_from : (tag : ℕ) (is_closed is_plain : Bool) (nodes : ℕ) → ℕ
+facts_from tag is_closed is_plain nodes = tag + 8 * from_bool is_closed + 16 * from_bool (is_closed && is_plain) + 32 * from_bool is_plain + 64 * capped nodes
+
 unfoldable pub facts_of : Term → ℕ
-facts_of t = (root_of t).tag + 8 * bit (closed t) + 16 * bit (closed t && plain t) + 32 * bit (plain t) + 64 * capped (size t)
+facts_of t = facts_from (root_of t).tag (closed t) (plain t) (size t)
 
--- the value of a closed term that is plain; 0 for others
+-- whether a node of a term holds a value: the term is closed and plain
+abbrev pub holds_of : Term → Bool
+holds_of t = closed t && plain t
+
+-- the value that a node of a term holds; 0 where it holds none
 unfoldable pub value_of : Term → ℕ
-value_of t = bit (closed t && plain t) * eval (λ v. 0) t
+value_of t = from_bool (holds_of t) * eval (λ v. 0) t
 
--- the value of the operation of a tag
-abbrev pub pair_value : (tag a b : ℕ) → ℕ
-pair_value zero = add_w
-pair_value (suc zero) = add_w
-pair_value (suc (suc zero)) = add_w
-pair_value (suc (suc (suc zero))) = sub_w
-pair_value (suc (suc (suc (suc t)))) = mask_w
+-- the value of an operation on two words
+abbrev pub pair_value : Operation → (a b : ℕ) → ℕ
+pair_value Sum = add_w
+pair_value Difference = sub_w
+pair_value Mask = mask_w
 
 -- node i's marks are right: the lower half are its term's facts, the upper half is a node, i or before it, of the same term
 pub record Marked (ws : List ℕ) (i : ℕ) : Type 0 where

@@ -6,20 +6,42 @@
 ghost use Rattle.std.specs.Prelude.{◌≡◌, suc, ◌+◌, ◌*◌, ◌/◌, ◌%◌, ◌≤◌, ◌<◌, length, set, eqb, leb};
 ghost use Rattle.model.specs.Term.{closed as isClosed, size as size_of};
 ghost use Rattle.model.specs.Goals.{most_term_nodes};
-ghost use Rattle.nodes.specs.Table.{low as low_of, high as high_of, parts_at, value_at, marks_at, valued_at, view_of, term_at, plain as is_plain, size_cap, place, Shaped, Formed};
+ghost use Rattle.nodes.specs.Table.{low as low_of, high as high_of, operation_tag, linear as isLinear, parts_at, value_at, marks_at, valued_at, view_of, term_at, plain as isPlain, size_cap, place, Shaped, Formed};
 
 use limits::MOST_TERM_NODES;
 use workspace::TABLE;
+
+// An operation on two terms, with the tag of its nodes.
+#[derive(Clone, Copy, PartialEq, Eq)]
+pub enum Operation {
+    Sum = 2,
+    Difference = 3,
+    Mask = 4,
+}
 
 // A node of the table: an operation names its parts by node number; a shift has its count first.
 #[derive(Clone, Copy)]
 pub enum Node {
     Constant(u32),
     Variable(u32),
-    Sum(usize, usize),
-    Difference(usize, usize),
-    Mask(usize, usize),
+    Pair(Operation, usize, usize),
     Shift(u32, usize),
+}
+
+impl Operation {
+    // The tag of the operation's nodes.
+    pub fn tag(self) -> u32
+        ensures { result ≡ operation_tag self }
+    {
+        self as u32
+    }
+
+    // Whether a linear form goes into the operation's parts.
+    pub fn is_linear(self) -> bool
+        ensures { result ≡ isLinear self }
+    {
+        self != Operation::Mask
+    }
 }
 
 // ---- words
@@ -35,7 +57,7 @@ pub fn low(w: u32) -> u32
 pub fn high(w: u32) -> usize
     ensures { (result ≡ high_of w) × (result < 65536) }
 {
-    fields::wide(w / 65536)
+    (w / 65536) as usize
 }
 
 // The marks of node i.
@@ -67,7 +89,7 @@ pub fn first(ws: &[u32], i: usize) -> usize
     requires { place (suc i) ≤ length ws.now }
     ensures { result ≡ low_of (parts_at ws.now i) }
 {
-    fields::wide(low(parts(ws, i)))
+    low(parts(ws, i)) as usize
 }
 
 // The second part of node i, or the count of a shift.
@@ -94,25 +116,25 @@ pub fn set_value(ws: &mut [u32], i: usize, value: u32)
     ws[TABLE + 3 * i + 1] = value;
 }
 
-// 1 for the marks of a closed term, 0 for others.
-pub fn is_closed(marks: u32) -> u32
-    ensures { (result ≡ marks / 8 % 2) × (result < 2) }
+// Whether marks are those of a closed term.
+pub fn is_closed(marks: u32) -> bool
+    ensures { result ≡ eqb (marks / 8 % 2) 1 }
 {
-    marks / 8 % 2
+    marks / 8 % 2 == 1
 }
 
-// 1 for the marks of a node that holds a value, 0 for others.
-pub fn is_valued(marks: u32) -> u32
-    ensures { (result ≡ marks / 16 % 2) × (result < 2) }
+// Whether marks are those of a node that holds a value.
+pub fn is_valued(marks: u32) -> bool
+    ensures { result ≡ eqb (marks / 16 % 2) 1 }
 {
-    marks / 16 % 2
+    marks / 16 % 2 == 1
 }
 
-// 1 for the marks of a plain term, in which no mask or shift stands, 0 for others.
-pub fn is_plain(marks: u32) -> u32
-    ensures { (result ≡ marks / 32 % 2) × (result < 2) }
+// Whether marks are those of a plain term, in which no mask or shift stands.
+pub fn is_plain(marks: u32) -> bool
+    ensures { result ≡ eqb (marks / 32 % 2) 1 }
 {
-    marks / 32 % 2
+    marks / 32 % 2 == 1
 }
 
 // The size in marks: the cap if it is more.
@@ -127,42 +149,34 @@ pub fn holds_value(ws: &[u32], i: usize) -> bool
     requires { place (suc i) ≤ length ws.now }
     ensures { result ≡ valued_at ws.now i }
 {
-    is_valued(marks(ws, i)) == 1
+    is_valued(marks(ws, i))
 }
 
 // Node i, in words that need not be a table.
-pub fn node_at(ws: &[u32], i: usize) -> Node
+#[tactic(auto, using(crate::proofs::Table::shift_tag), unfolding(crate::specs::Table::view_of))]
+pub fn view(ws: &[u32], i: usize) -> Node
     requires { place (suc i) ≤ length ws.now }
     ensures { result ≡ view_of ws.now i }
 {
-    let at = TABLE + 3 * i;
-    let parts = ws[at];
-    let value = ws[at + 1];
-    let tag = ws[at + 2] % 8;
-    match tag {
-        0 => Node::Constant(value),
+    let parts = parts(ws, i);
+    let first = low(parts) as usize;
+    let second = high(parts);
+    match tag(ws, i) {
+        0 => Node::Constant(value(ws, i)),
         1 => Node::Variable(parts),
-        2 => Node::Sum(fields::wide(low(parts)), high(parts)),
-        3 => Node::Difference(fields::wide(low(parts)), high(parts)),
-        4 => Node::Mask(fields::wide(low(parts)), high(parts)),
-        _ => Node::Shift(parts / 65536, fields::wide(low(parts))),
+        2 => Node::Pair(Operation::Sum, first, second),
+        3 => Node::Pair(Operation::Difference, first, second),
+        4 => Node::Pair(Operation::Mask, first, second),
+        _ => Node::Shift(parts / 65536, first),
     }
-}
-
-// Node i of the table.
-pub fn view(ws: &[u32], i: usize) -> Node
-    requires { Formed ws.now (suc i) }
-    ensures { result ≡ view_of ws.now i }
-{
-    node_at(ws, i)
 }
 
 // ---- terms
 
 // Whether the same node stands for the terms of nodes i and j.
 pub fn twins(ws: &[u32], i: usize, j: usize) -> bool
-    requires shaped { Shaped ws.now (suc i) }
-    requires shaped_2 { Shaped ws.now (suc j) }
+    requires first_shaped { Shaped ws.now (suc i) }
+    requires second_shaped { Shaped ws.now (suc j) }
     ensures { result ≡ eqb (high_of (marks_at ws.now i)) (high_of (marks_at ws.now j)) }
 {
     high(marks(ws, i)) == high(marks(ws, j))
@@ -170,8 +184,8 @@ pub fn twins(ws: &[u32], i: usize, j: usize) -> bool
 
 // Whether the terms of nodes i and j have the same facts.
 pub fn alike(ws: &[u32], i: usize, j: usize) -> bool
-    requires shaped { Shaped ws.now (suc i) }
-    requires shaped_2 { Shaped ws.now (suc j) }
+    requires first_shaped { Shaped ws.now (suc i) }
+    requires second_shaped { Shaped ws.now (suc j) }
     ensures { result ≡ eqb (low_of (marks_at ws.now i)) (low_of (marks_at ws.now j)) }
 {
     low(marks(ws, i)) == low(marks(ws, j))
@@ -182,21 +196,21 @@ pub fn closed(ws: &[u32], i: usize) -> bool
     requires { Formed ws.now (suc i) }
     ensures { result ≡ isClosed (term_at ws.now i) }
 {
-    is_closed(marks(ws, i)) == 1
+    is_closed(marks(ws, i))
 }
 
 // Whether no mask or shift stands in node i's term.
 pub fn plain(ws: &[u32], i: usize) -> bool
     requires { Formed ws.now (suc i) }
-    ensures { result ≡ is_plain (term_at ws.now i) }
+    ensures { result ≡ isPlain (term_at ws.now i) }
 {
-    is_plain(marks(ws, i)) == 1
+    is_plain(marks(ws, i))
 }
 
 // Whether node i's term has at most so many nodes, below the cap.
 pub fn at_most(ws: &[u32], i: usize, nodes: u32) -> bool
     requires formed { Formed ws.now (suc i) }
-    requires nodes_lt_size_cap { nodes < size_cap }
+    requires below_cap { nodes < size_cap }
     ensures { result ≡ leb (size_of (term_at ws.now i)) nodes }
 {
     size(marks(ws, i)) <= nodes

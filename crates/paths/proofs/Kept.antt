@@ -79,12 +79,12 @@ module _ {ws us : List ℕ} {p : Path} (k : Kept ws us p) where
       steps = p.steps;
       registers = registers_equal i;
       variables = p.variables;
-      assumptions = listed_same assumed_same (w.prepared 0).assumed k.table p.assumptions (omega arith) i;
+      assumptions = listed_same assumed_same w.prepared.assumed k.table p.assumptions (omega arith) i;
     }
 
     -- what a derivation needs, with assumptions that are listed
-    pub prepared_held : length us ≡ length ws → (regions : ℕ) {count : ℕ} → Listed us count p.top → Prepared us p.top (record { regions = regions; assumptions = count; variables = p.variables })
-    prepared_held e regions l = let q = w.prepared regions in record {
+    pub prepared_held : length us ≡ length ws → {count : ℕ} → Listed us count p.top → Prepared us p.top (record { assumptions = count; variables = p.variables })
+    prepared_held e l = let q = w.prepared in record {
       formed = formed_same p.top k.table e q.formed;
       above = q.above;
       registers = record { is = λ v h. term_same p.top k.table (get_or register_nodes v 0) (omega (arith, q.above, register_below v h)) ∙ q.registers.is v h };
@@ -95,7 +95,7 @@ module _ {ws us : List ℕ} {p : Path} (k : Kept ws us p) where
 
     pub path_held : length us ≡ length ws → PathIn us p
     path_held e = record {
-      prepared = λ regions. prepared_held e regions (held_same assumed_same (w.prepared 0).assumed p.top (omega arith));
+      prepared = prepared_held e (held_same assumed_same w.prepared.assumed p.top (omega arith));
       sixteen = w.sixteen;
       held = λ v h. node_held (w.held v h);
       run = w.run;

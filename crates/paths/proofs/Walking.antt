@@ -39,10 +39,10 @@ module _ {ws us : List ℕ} {p : Path} (s : Same 0 (place p.top) ws us) where
 
   module _ (h : PathIn ws p) where
     pub path_same : path_of us p ≡ path_of ws p
-    path_same = path_equal (kept_same p (h.prepared 0).assumed.few s) h
+    path_same = path_equal (kept_same p h.prepared.assumed.few s) h
 
     pub path_kept : length us ≡ length ws → PathIn us p
-    path_kept e = path_held (kept_same p (h.prepared 0).assumed.few s) h e
+    path_kept e = path_held (kept_same p h.prepared.assumed.few s) h e
 
 -- ---- the same path with more nodes in the table
 pub node_raised : {ws : List ℕ} {p : Path} {i : ℕ} (t : ℕ) → p.top ≤ t → NodeIn ws p i → NodeIn ws (raised_to p t) i
@@ -50,7 +50,7 @@ node_raised t h n = node_wider h (omega arith) n
 
 pub path_raised : {ws : List ℕ} {p : Path} (t : ℕ) → p.top ≤ t → Formed ws t → PathIn ws p → PathIn ws (raised_to p t)
 path_raised {ws} {p} t h f w = record {
-  prepared = λ regions. prepared_grown (same_refl 0 (place p.top) ws) (w.prepared regions) f h;
+  prepared = prepared_grown (same_refl 0 (place p.top) ws) w.prepared f h;
   sixteen = w.sixteen;
   held = λ v k. node_raised t h (w.held v k);
   run = w.run;
@@ -113,7 +113,7 @@ registers_bound {ws} {p} h = substitute_bound (map (term_at ws) p.registers) p.v
 -- what the reader asks
 pub path_ready : {ws : List ℕ} {path : Path} {room : ℕ} (n : ℕ) → n ≤ room → PathIn ws path → Space ws path.top room → Ready ws path.registers path.top n
 path_ready n h y s = record {
-  formed = (y.prepared 0).formed;
+  formed = y.prepared.formed;
   space = record { words = s.words; fits = omega (arith, s.fits) };
   held = λ v k. (y.held v k).below;
 }

@@ -42,9 +42,9 @@ abbrev pub one_variable : Path → Path
 one_variable p = record { counter = p.counter; steps = p.steps; variables = p.variables + 1; assumptions = p.assumptions; top = p.top; registers = p.registers }
 
 -- ---- what lies in the words
--- how many regions, assumptions and variables a derivation may name
-abbrev pub scope_of : (regions : ℕ) → Path → Scope
-scope_of regions p = record { regions = regions; assumptions = p.assumptions; variables = p.variables }
+-- how many assumptions and variables a derivation may name
+abbrev pub scope_of : Path → Scope
+scope_of p = record { assumptions = p.assumptions; variables = p.variables }
 
 -- node i lies below the path's top, and its term is over the path's variables
 pub record NodeIn (ws : List ℕ) (p : Path) (i : ℕ) : Type 0 where
@@ -58,7 +58,7 @@ pub record ClaimIn (ws : List ℕ) (p : Path) (claim : Claim) : Type 0 where
 
 -- so do the registers' nodes, and the assumptions
 pub record PathIn (ws : List ℕ) (p : Path) : Type 0 where
-  pub prepared : (regions : ℕ) → Prepared ws p.top (scope_of regions p)
+  pub prepared : Prepared ws p.top (scope_of p)
   pub sixteen : length p.registers ≡ register_count
   pub held : (v : ℕ) → v < register_count → NodeIn ws p (get_or p.registers v 0)
   pub run : p.steps ≤ most_instructions

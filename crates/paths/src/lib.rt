@@ -21,46 +21,51 @@ pub struct Path {
     pub registers: [u32; REGISTERS],
 }
 
-// The path with more nodes in the table.
-pub fn raised(mut path: Path, top: usize) -> Path
-    ensures { result ≡ raised_to path top }
-{
-    path.top = top;
-    path
-}
+impl Path {
+    // The path with more nodes in the table.
+    pub fn raised(self, top: usize) -> Path
+        ensures { result ≡ raised_to self top }
+    {
+        Path { top, ..self }
+    }
 
-// One instruction more run, on to an index.
-pub fn stepped(mut path: Path, index: usize) -> Path
-    requires { path.steps < most_instructions }
-    ensures { result ≡ stepped_to path index }
-{
-    path.counter = index;
-    path.steps += 1;
-    path
-}
+    // One instruction more run, on to an index.
+    pub fn stepped(self, index: usize) -> Path
+        requires { self.steps < most_instructions }
+        ensures { result ≡ stepped_to self index }
+    {
+        Path {
+            counter: index,
+            steps: self.steps + 1,
+            ..self
+        }
+    }
 
-// Register d is a node.
-pub fn written(mut path: Path, d: u8, node: usize) -> Path
-    requires { (d < register_count) × (node < 2 ^ 32) }
-    ensures { result ≡ written_to path d node }
-{
-    path.registers[d as usize] = node as u32;
-    path
-}
+    // Register d is a node.
+    pub fn written(mut self, d: u8, node: usize) -> Path
+        requires { (d < register_count) × (node < 2 ^ 32) }
+        ensures { result ≡ written_to self d node }
+    {
+        self.registers[usize::from(d)] = node as u32;
+        self
+    }
 
-// The node of a register.
-pub fn node(path: Path, register: u8) -> usize
-    requires { register < register_count }
-    ensures { result ≡ get_or path.registers register 0 }
-{
-    fields::wide(path.registers[register as usize])
-}
+    // The node of a register.
+    pub fn node(self, register: u8) -> usize
+        requires { register < register_count }
+        ensures { result ≡ get_or self.registers register 0 }
+    {
+        self.registers[usize::from(register)] as usize
+    }
 
-// One variable more.
-pub fn with_variable(mut path: Path) -> Path
-    requires { path.variables < most_variables }
-    ensures { result ≡ one_variable path }
-{
-    path.variables += 1;
-    path
+    // One variable more.
+    pub fn with_variable(self) -> Path
+        requires { self.variables < most_variables }
+        ensures { result ≡ one_variable self }
+    {
+        Path {
+            variables: self.variables + 1,
+            ..self
+        }
+    }
 }

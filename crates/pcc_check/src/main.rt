@@ -9,30 +9,16 @@ const POLICY: usize = 6189;
 
 const ROUTINE: usize = MOST_BYTES + 1;
 
-// The workspace that document 01 asks for at least.
-const WORDS: usize = LEAST_WORKSPACE;
-
 fn main(rt: HostRuntime) -> io::Result<()> {
-    let mut policy = [0u8; POLICY];
-    let first = console::load(&rt, b"policy.bin", &mut policy);
-    if !first.readable {
+    let mut policy = [0; POLICY];
+    let Some(policy) = console::load(&rt, b"policy.bin", &mut policy) else {
         return Ok(());
-    }
-    let mut routine = [0u8; ROUTINE];
-    let second = console::load(&rt, b"routine.bin", &mut routine);
-    if !second.readable {
+    };
+    let mut routine = [0; ROUTINE];
+    let Some(routine) = console::load(&rt, b"routine.bin", &mut routine) else {
         return Ok(());
-    }
-    let mut workspace = [0u32; WORDS];
-    let p = first.bytes;
-    let r = second.bytes;
-    let verdict = loader::check(&mut workspace, &policy[..p], &routine[..r]);
-    console::print_answer(
-        &rt,
-        b"verdict",
-        verdict.number,
-        verdict.place,
-        b"goals",
-        verdict.goals as u64,
-    )
+    };
+    let mut workspace = [0; LEAST_WORKSPACE];
+    let verdict = loader::check(&mut workspace, policy, routine);
+    println!(rt; "{verdict}")
 }

@@ -1,7 +1,7 @@
 // The run program: runs the routine of routine.bin under the policy of policy.bin from the state of start.bin, and prints the answer.
 #![tactic(auto)]
 
-ghost use Rattle.std.specs.Prelude.{◌≡◌, ◌≤◌, ◌-◌, ◌/◌, min, length};
+ghost use Rattle.std.specs.Prelude.{◌≡◌, ◌≤◌, length};
 ghost use Rattle.model.specs.Runner.{run_of};
 ghost use Rattle.pcc_run.specs.Start.{most_start, budget_in, register_words, memory_words, registers_in, memory_in};
 
@@ -22,27 +22,15 @@ const MEMORY: usize = MOST_MEMORY as usize + 1;
 const MEMORY_AT: usize = 1 + REGISTERS;
 
 // The first word of a start file, or 0 where there is none.
+#[tactic(auto, using(crate::proofs::Laws::no_budget, crate::proofs::Laws::some_budget))]
 fn budget(start: &[u8]) -> u32
     ensures { result ≡ budget_in start.now }
 {
     if start.len() < 4 {
-        return 0;
+        0
+    } else {
+        fields::word(start, 0)
     }
-    fields::word(start, 0)
-}
-
-// How many of the words after the first `skipped` there are, at most `most`.
-fn rest(words: usize, skipped: usize, most: usize) -> usize
-    ensures { result ≡ min (words - skipped) most }
-{
-    if words <= skipped {
-        return 0;
-    }
-    let left = words - skipped;
-    if most < left {
-        return most;
-    }
-    left
 }
 
 // The run from the state in a start file's bytes, on registers and memory with as many words as it holds for each.
@@ -70,8 +58,9 @@ fn run_start(policy: &[u8], routine: &[u8], start: &[u8]) -> Outcome
     let words = start.len() / 4;
     let mut registers = [0u32; REGISTERS];
     let mut memory = [0u32; MEMORY];
-    let held = rest(words, 1, REGISTERS);
-    let size = rest(words, MEMORY_AT, MEMORY);
+    // the words after the budget, and those after the registers
+    let held = words.saturating_sub(1).min(REGISTERS);
+    let size = words.saturating_sub(MEMORY_AT);
     run_on(
         policy,
         routine,
@@ -82,31 +71,18 @@ fn run_start(policy: &[u8], routine: &[u8], start: &[u8]) -> Outcome
 }
 
 fn main(rt: HostRuntime) -> io::Result<()> {
-    let mut policy = [0u8; POLICY];
-    let first = console::load(&rt, b"policy.bin", &mut policy);
-    if !first.readable {
+    let mut policy = [0; POLICY];
+    let Some(policy) = console::load(&rt, b"policy.bin", &mut policy) else {
         return Ok(());
-    }
-    let mut routine = [0u8; ROUTINE];
-    let second = console::load(&rt, b"routine.bin", &mut routine);
-    if !second.readable {
+    };
+    let mut routine = [0; ROUTINE];
+    let Some(routine) = console::load(&rt, b"routine.bin", &mut routine) else {
         return Ok(());
-    }
-    let mut start = [0u8; START];
-    let third = console::load(&rt, b"start.bin", &mut start);
-    if !third.readable {
+    };
+    let mut start = [0; START];
+    let Some(start) = console::load(&rt, b"start.bin", &mut start) else {
         return Ok(());
-    }
-    let p = first.bytes;
-    let r = second.bytes;
-    let s = third.bytes;
-    let outcome = run_start(&policy[..p], &routine[..r], &start[..s]);
-    console::print_answer(
-        &rt,
-        b"run",
-        outcome.number,
-        outcome.place,
-        b"steps",
-        outcome.steps as u64,
-    )
+    };
+    let outcome = run_start(policy, routine, start);
+    println!(rt; "{outcome}")
 }

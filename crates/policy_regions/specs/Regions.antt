@@ -1,21 +1,30 @@
--- What the answer on the regions says, in the definitions' terms. Assumes nothing.
-use Rattle.std.specs.Prelude.{ℕ, List, take}
-use Rattle.model.specs.Result.{Result, stop, value}
+-- What is read of the regions, in the definitions' terms. Assumes nothing.
+use Rattle.std.specs.Prelude.{ℕ, ◌+◌, ◌≤◌, ◌≡◌, List, length, take, All}
+use Rattle.model.specs.Result.{Result, Err, Ok, ◌>>=◌, check}
+use Rattle.model.specs.Policy.{region_at, region_fits}
 use Rattle.model.specs.declared.Region.{Region}
+use Rattle.model.specs.declared.Sizes.{Sizes}
 use Rattle.model.specs.declared.Refusal.{Refusal}
-use Rattle.policy_regions.specs.declared.RegionsAnswer.{RegionsAnswer}
-use Rattle.policy_regions.specs.declared.RegionsAnswer.TheVariants.{Passed, Refused}
-use Rattle.policy_regions.specs.declared.RegionsRead.{RegionsRead}
+use Rattle.model.specs.declared.Refusal.TheVariants.{BadRegion}
+use Rattle.policy_regions.specs.declared.Regions.{Regions}
 
--- what the code reads past the end of an array of regions
-abbrev pub no_region : Region
-no_region = record { base = 0; size = 0; rights = 0 }
+-- the regions, without the rest of the list
+abbrev pub listed : Regions → List Region
+listed regions = take regions.count regions.list
 
--- what an answer says beside the regions
-unfoldable pub regions_answered : RegionsAnswer → List Region → Result Refusal (List Region)
-regions_answered Passed rs = value rs
-regions_answered (Refused r) rs = stop r
+-- the regions read, or why the policy is refused
+unfoldable pub regions_result : Result Regions Refusal → Result (List Region) Refusal
+regions_result (Err r) = Err r
+regions_result (Ok regions) = Ok (listed regions)
 
--- the regions, so many of the array
-unfoldable pub regions_result : (count : ℕ) → RegionsRead → Result Refusal (List Region)
-regions_result count r = regions_answered r.answer (take count r.regions)
+-- region j, if it fits
+unfoldable pub region_read : List ℕ → Sizes → (j : ℕ) → Result Region Refusal
+region_read bytes sizes j = do
+  _ ← check (region_fits sizes.memory (region_at bytes sizes.regions j)) (BadRegion j)
+  Ok (region_at bytes sizes.regions j)
+
+-- what holds of the regions that are read: there are as many as the sizes say, the list has them all, and each ends within M
+pub record Fitting (sizes : Sizes) (regions : Regions) : Type 0 where
+  pub counted : regions.count ≡ sizes.regions
+  pub whole : length (listed regions) ≡ regions.count
+  pub ends : All (λ r. r.base + r.size ≤ sizes.memory) (listed regions)

@@ -1,13 +1,15 @@
 -- The ways out of the functions that read the sizes. Assumes nothing.
 use Prim.Native.Nat.{ℕ, zero, suc, ◌+◌, ◌≤◌, ◌<◌}
 use mathlib.Core.Path.{◌≡◌, refl, sym, ◌∙◌}
-use mathlib.Core.Bool.{true, false, ◌&&◌}
+use mathlib.Core.Bool.{Bool, true, false, ◌&&◌}
 use mathlib.Core.List.{List}
 use native.Mathlib.Omega.{arith}
 use lib.ListN.{length, get_or}
 use lib.Dec.{leb, eqb, leb-zero, leb-suc-zero, eqb-suc-zero}
 use borrow.Author.Tests.{le-leb, lt-leb, leb-true}
-use Rattle.model.specs.Result.{Result, value, ◌>>=◌, check, stop_as}
+use Rattle.std.specs.Ordering.{is_le, nat_cmp}
+use Rattle.std.proofs.lemmas.Bool.Decides.{nat_tests}
+use Rattle.model.specs.Result.{Result, Err, Ok, ◌>>=◌, check, map_err}
 use Rattle.model.specs.Word.{le32}
 use Rattle.model.specs.Atom.{most_atoms}
 use Rattle.model.specs.Field.{byte_at, word_at}
@@ -15,43 +17,43 @@ use Rattle.model.specs.Policy.{most_regions, most_memory, policy_field, policy_r
 use Rattle.model.specs.declared.Sizes.{Sizes}
 use Rattle.model.specs.declared.Refusal.{Refusal}
 use Rattle.model.specs.declared.Refusal.TheVariants.{PolicyLength, PolicySize}
-use Rattle.policy_sizes.specs.Sizes.{field_result, sizes_result, in_range, size_byte, memory_field}
-use Rattle.policy_sizes.specs.declared.FieldAnswer.{FieldAnswer}
-use Rattle.policy_sizes.specs.declared.FieldAnswer.TheVariants as field
-use Rattle.policy_sizes.specs.declared.SizesAnswer.TheVariants as sizes
+use Rattle.policy_sizes.specs.Sizes.{in_range, size_byte, memory_field}
 use Rattle.model.proofs.Results.{then_then, value_then}
 use Rattle.model.proofs.Gives.{Gives, gives, gives_then, gives_check, gives_any}
 use Rattle.model.proofs.Terms.{and_left, and_right}
 
 -- in_range
-module _ (at least most n : ℕ) where
-  pub inside : (leb least n && leb n most) ≡ true → field_result (field.Passed n) ≡ in_range at least most n
-  unfolding field_result in_range ◌>>=◌ check
-  inside e = rw e
 
-  pub outside : (leb least n && leb n most) ≡ false → field_result (field.Refused (PolicySize at)) ≡ in_range at least most n
-  unfolding field_result in_range ◌>>=◌ check
-  outside e = rw e
+-- the test of a range, as numbers
+at_most : (a b : ℕ) → is_le (nat_cmp a b) ≡ leb a b
+at_most a b = grind (arith, nat_tests)
 
--- size_byte
-module _ (bytes : List ℕ) (at least most : ℕ) where
-  pub no_byte : length bytes ≤ at → field_result (field.Refused (PolicyLength (length bytes))) ≡ size_byte bytes at least most
-  unfolding field_result size_byte byte_at ◌>>=◌ check stop_as policy_refusal
-  no_byte h = rw (lt-leb (at + 1) (length bytes) (omega arith))
+module _ (at least most n : ℕ) (within : Bool) (is : within ≡ (is_le (nat_cmp least n) && is_le (nat_cmp n most))) where
+  pub inside : within ≡ true → Ok n ≡ in_range at least most n
+  unfolding in_range ◌>>=◌ check
+  inside t = rw (← at_most least n, ← at_most n most, ← is, t)
 
-  pub a_byte : (r : FieldAnswer) → at < length bytes → field_result r ≡ in_range at least most (get_or bytes at 0) → field_result r ≡ size_byte bytes at least most
-  unfolding size_byte byte_at ◌>>=◌ check stop_as
-  a_byte r h e = rw (le-leb (at + 1) (length bytes) (omega arith)) e
+  pub outside : within ≡ false → Err (PolicySize at) ≡ in_range at least most n
+  unfolding in_range ◌>>=◌ check
+  outside t = rw (← at_most least n, ← at_most n most, ← is, t)
 
--- memory_field
-module _ (bytes : List ℕ) where
-  pub no_word : length bytes < 8 → field_result (field.Refused (PolicyLength (length bytes))) ≡ memory_field bytes
-  unfolding field_result memory_field word_at ◌>>=◌ check stop_as policy_refusal
-  no_word h = rw (lt-leb 8 (length bytes) h)
+-- a byte, and a word, that are there or not
+module _ (bytes : List ℕ) (at : ℕ) where
+  pub no_byte : (least most : ℕ) → length bytes ≤ at → Err (PolicyLength (length bytes)) ≡ size_byte bytes at least most
+  unfolding size_byte byte_at ◌>>=◌ check map_err policy_refusal
+  no_byte least most h = rw (lt-leb (at + 1) (length bytes) (omega arith))
 
-  pub a_word : (r : FieldAnswer) → 8 ≤ length bytes → field_result r ≡ in_range 4 1 most_memory (le32 bytes 4) → field_result r ≡ memory_field bytes
-  unfolding memory_field word_at ◌>>=◌ check stop_as
-  a_word r h e = rw (le-leb 8 (length bytes) h) e
+  pub a_byte : (least most : ℕ) → at < length bytes → in_range at least most (get_or bytes at 0) ≡ size_byte bytes at least most
+  unfolding size_byte byte_at ◌>>=◌ check map_err
+  a_byte least most h = rw (le-leb (at + 1) (length bytes) (omega arith))
+
+  pub no_word : length bytes < at + 4 → Err (PolicyLength (length bytes)) ≡ policy_field bytes (word_at bytes (length bytes) at)
+  unfolding word_at ◌>>=◌ check map_err policy_refusal
+  no_word h = rw (lt-leb (at + 4) (length bytes) h)
+
+  pub a_word : at + 4 ≤ length bytes → Ok (le32 bytes at) ≡ policy_field bytes (word_at bytes (length bytes) at)
+  unfolding word_at ◌>>=◌ check map_err
+  a_word h = rw (le-leb (at + 4) (length bytes) h)
 
 -- read_sizes
 at_most_zero : (n : ℕ) → leb n 0 ≡ eqb n 0
@@ -59,7 +61,7 @@ at_most_zero zero = refl
 at_most_zero (suc n) = leb-suc-zero n ∙ sym (eqb-suc-zero n)
 
 -- the definition with each field and its range as one
-unfoldable pub sizes_by : List ℕ → Result Refusal Sizes
+unfoldable pub sizes_by : List ℕ → Result Sizes Refusal
 sizes_by bytes = do
   regions ← size_byte bytes 0 1 most_regions
   pre ← size_byte bytes 1 0 most_atoms
@@ -67,31 +69,11 @@ sizes_by bytes = do
   _ ← size_byte bytes 3 0 0
   memory ← memory_field bytes
   limit ← policy_field bytes (word_at bytes (length bytes) 8)
-  value (record { regions = regions; precondition = pre; postcondition = post; memory = memory; limit = limit })
+  Ok (record { regions = regions; precondition = pre; postcondition = post; memory = memory; limit = limit })
 
 pub by_fields : (bytes : List ℕ) → sizes_of bytes ≡ sizes_by bytes
 unfolding sizes_by sizes_of size_byte memory_field in_range
 by_fields bytes = simp (then_then, value_then, leb-zero, at_most_zero)
-
--- One more field: the whole reading `w` is a field and then `k`.
-module _ (m : Result Refusal ℕ) (k : ℕ → Result Refusal Sizes) (r : FieldAnswer) {w : Result Refusal Sizes} where
-  pub on : {n : ℕ} → w ≡ (m >>= k) → field_result r ≡ m → r ≡ field.Passed n → w ≡ k n
-  unfolding field_result ◌>>=◌
-  on p e g = p ∙ rw (← e, g)
-
-  pub off : {x : Refusal} → w ≡ (m >>= k) → field_result r ≡ m → r ≡ field.Refused x → sizes_result (sizes.Refused x) ≡ w
-  unfolding field_result sizes_result ◌>>=◌
-  off p e g = sym (p ∙ rw (← e, g))
-
--- the last field, which has no range
-module _ (bytes : List ℕ) (k : ℕ → Result Refusal Sizes) {w : Result Refusal Sizes} (p : w ≡ (policy_field bytes (word_at bytes (length bytes) 8) >>= k)) where
-  pub no_limit : length bytes < 12 → sizes_result (sizes.Refused (PolicyLength (length bytes))) ≡ w
-  unfolding sizes_result word_at ◌>>=◌ check stop_as policy_refusal
-  no_limit h = sym (p ∙ rw (lt-leb 12 (length bytes) h))
-
-  pub limit : 12 ≤ length bytes → w ≡ k (le32 bytes 8)
-  unfolding word_at ◌>>=◌ check stop_as
-  limit h = p ∙ rw (le-leb 12 (length bytes) h)
 
 -- What holds of the sizes that are read.
 in_range_lem : (at least most n : ℕ) → Gives (λ m. (least ≤ m) × (m ≤ most)) (in_range at least most n)

@@ -1,83 +1,77 @@
 -- The laws of the readers of instructions, one for each way out. Assumes nothing.
-use mathlib.Core.Path.{◌≡◌, refl, sym, ap, subst, ◌∙◌}
+use mathlib.Core.Path.{◌≡◌, refl, sym, ap, ◌∙◌}
 use mathlib.Core.Bool.{true, false}
 use mathlib.Core.List.{List, [], ◌∷◌, ◌++◌, append_assoc, append-nil}
 use native.Mathlib.Omega.{arith}
-use Prim.Native.Nat.{ℕ, suc, ◌+◌, ◌-◌, ◌*◌, ◌^◌, ◌≤◌, ◌<◌}
-use lib.ListN.{length, get_or, take, set, replicate, length-set, length-replicate, get_or-replicate}
-use native.Mathlib.Decide.{ℕ_discrete}
-use lib.Seq.{get_or-set_same, get_or-set_other}
-use Rattle.model.specs.Result.{Result, stop, value, ◌>>=◌, check, stop_as}
+use Prim.Native.Nat.{ℕ, suc, ◌+◌, ◌-◌, ◌*◌, ◌≤◌, ◌<◌}
+use lib.ListN.{length, get_or, take, set, length-set}
+use Rattle.std.specs.List.{All}
+use Rattle.std.specs.Result.{MatchResult, IsErrAnd}
+use Rattle.std.proofs.lemmas.List.{take_more_set}
+use Rattle.std.proofs.lemmas.List.Elements.{All-nil, All-push}
+use Rattle.model.specs.Result.{Result, Err, Ok, ◌>>=◌, check, map_err}
 use Rattle.model.specs.Word.{le32}
 use Rattle.model.specs.Instruction.{decode, target_inside}
 use Rattle.model.specs.Package.{most_instructions, immediate_start, instructions_from, read_code}
 use Rattle.model.specs.declared.Header.{Header}
 use Rattle.model.specs.declared.Instruction.{Instruction}
-use Rattle.model.specs.declared.Instruction.TheVariants.{Return}
 use Rattle.model.specs.declared.Refusal.{Refusal}
 use Rattle.model.specs.declared.Refusal.TheVariants.{BadInstruction, BadTarget}
-use Rattle.decoding.specs.declared.Decoded.{Decoded}
-use Rattle.decoding.specs.declared.Decoded.TheVariants.{Good, Bad}
-use Rattle.decoding.specs.Decoding.{decoded_of, Formed}
-use Rattle.routine.specs.declared.instructions.InstructionAnswer.{InstructionAnswer}
-use Rattle.routine.specs.declared.instructions.InstructionAnswer.TheVariants.{Passed, Refused}
-use Rattle.routine.specs.declared.instructions.CodeAnswer.TheVariants as answers
-use Rattle.routine.specs.declared.instructions.Line.{Line}
-use Rattle.routine.specs.Code.{instruction_result, instruction_at, FormedIfPassed, InstructionRead, code_checked, instructions_of, code_of_lines, AllFormed, CodeMet}
-use Rattle.routine.proofs.Lists.{map_stored}
+use Rattle.decoding.specs.Decoding.{Formed}
+use Rattle.routine.specs.Code.{instruction_at, code_checked}
 use Rattle.model.proofs.Results.{then_then, then_same}
-use Rattle.decoding.proofs.Decoding.{decoded, undecoded, formed}
 
--- ---- one instruction: the immediate i and the decoding r that the code has
-module _ (bytes : List ℕ) (h : Header) (index i : ℕ) (ei : i ≡ le32 bytes (immediate_start h + 4 * index)) (r : Decoded) (er : r ≡ decoded_of (decode (get_or bytes (12 + 4 * index) 0) (get_or bytes (12 + 4 * index + 1) 0) (get_or bytes (12 + 4 * index + 2) 0) (get_or bytes (12 + 4 * index + 3) 0) i)) where
-  pub unknown : r ≡ Bad → InstructionRead bytes h index (Refused (BadInstruction index))
-  unfolding instruction_result FormedIfPassed instruction_at ◌>>=◌ stop_as check
-  unknown e = record { is = rw (← ei, undecoded _ (sym e ∙ er), instruction_at); formed = tt }
+-- ---- one instruction
+-- an error that a closure turned into another
+pub mapped : {A E F : Type 0} {P : E → F → Type 0} (f : E → F) (m : Result A E) (r : Result A F) → ((e : E) (x : F) → P e x → x ≡ f e) → MatchResult m (λ a. r ≡ Ok a) (λ e. IsErrAnd r (P e)) → r ≡ map_err f m
+unfolding map_err
+mapped f (Ok a) r says e = e
+mapped f (Err e) (Ok a) says p = elim p [ ]
+mapped f (Err e) (Err x) says p = ap Err (says e x p)
 
-  module _ (x : Instruction) (e : r ≡ Good x) where
-    pub outside : false ≡ target_inside h.instructions x → InstructionRead bytes h index (Refused (BadTarget index))
-    unfolding instruction_result FormedIfPassed instruction_at ◌>>=◌ stop_as check
-    outside t = record { is = rw (← ei, decoded _ _ (sym e ∙ er), ← t, instruction_at); formed = tt }
+module _ (bytes : List ℕ) (h : Header) (index : ℕ) where
+  -- its decoding, or check 8
+  abbrev decoding : Result Instruction Refusal
+  decoding = map_err (λ _. BadInstruction index) (decode (get_or bytes (12 + 4 * index) 0) (get_or bytes (12 + 4 * index + 1) 0) (get_or bytes (12 + 4 * index + 2) 0) (get_or bytes (12 + 4 * index + 3) 0) (le32 bytes (immediate_start h + 4 * index)))
 
-    pub inside : i < 2 ^ 32 → true ≡ target_inside h.instructions x → InstructionRead bytes h index (Passed x)
-    unfolding instruction_result FormedIfPassed instruction_at ◌>>=◌ stop_as check
-    inside w t = record { is = rw (← ei, decoded _ _ (sym e ∙ er), ← t, instruction_at); formed = formed _ _ _ _ _ w _ x (decoded _ _ (sym e ∙ er)) (sym t) }
+  pub unknown : (x : Refusal) → Err x ≡ decoding → Err x ≡ instruction_at bytes h index
+  unfolding instruction_at ◌>>=◌
+  unknown x e = rw (← e, instruction_at)
+
+  module _ (x : Instruction) (e : Ok x ≡ decoding) where
+    pub outside : target_inside h.instructions x ≡ false → Err (BadTarget index) ≡ instruction_at bytes h index
+    unfolding instruction_at ◌>>=◌ check
+    outside t = rw (← e, t, instruction_at)
+
+    pub inside : target_inside h.instructions x ≡ true → Ok x ≡ instruction_at bytes h index
+    unfolding instruction_at ◌>>=◌ check
+    inside t = rw (← e, t, instruction_at)
 
 -- ---- the whole code
 
-returns_formed : (n size : ℕ) → AllFormed n (replicate size (record { instruction = Return }))
-returns_formed n size = record { at = λ k other l. let below : k < size = omega (arith, length-replicate {A = Line} size (record { instruction = Return })) in rw (get_or-replicate size k (record { instruction = Return }) other below) tt }
-
-set_formed : (n : ℕ) (code : List Line) (index : ℕ) (x : Instruction) → AllFormed n code → Formed n x → AllFormed n (set code index (record { instruction = x }))
-set_formed n code index x all f = record { at = λ k other l. at_line k other (rw (length-set code index (record { instruction = x })) at l) (ℕ_discrete k index) }
-  where
-    at_line : (k : ℕ) (other : Line) → k < length code → Dec (k ≡ index) → Formed n (get_or (set code index (record { instruction = x })) k other).instruction
-    at_line k other below (yes same) = rw (same, get_or-set_same code index (record { instruction = x }) other (rw same at below)) f
-    at_line k other below (no apart) = rw (get_or-set_other code index k (record { instruction = x }) other apart) (all.at k other below)
-
 module _ (bytes : List ℕ) (h : Header) where
   -- the definition's step, by the instruction at the index
-  pub step : (left index : ℕ) → instructions_from bytes h (suc left) index ≡ (instruction_at bytes h index >>= λ x. instructions_from bytes h left (index + 1) >>= λ rest. value (x ∷ rest))
+  pub step : (left index : ℕ) → instructions_from bytes h (suc left) index ≡ (instruction_at bytes h index >>= λ x. instructions_from bytes h left (index + 1) >>= λ rest. Ok (x ∷ rest))
   unfolding instructions_from instruction_at ◌>>=◌
   step left index =
-      let rest : Instruction → Result Refusal (List Instruction) = λ x. instructions_from bytes h left (index + 1) >>= λ rest. value (x ∷ rest) in
-      let m : Result Refusal Instruction = stop_as (λ _. BadInstruction index) (decode (get_or bytes (12 + 4 * index) 0) (get_or bytes (12 + 4 * index + 1) 0) (get_or bytes (12 + 4 * index + 2) 0) (get_or bytes (12 + 4 * index + 3) 0) (le32 bytes (immediate_start h + 4 * index))) in
-      sym (then_then m _ rest ∙ then_same m (λ x. then_then (check (target_inside h.instructions x) (BadTarget index)) (λ _. value x) rest))
+      let rest : Instruction → Result (List Instruction) Refusal = λ x. instructions_from bytes h left (index + 1) >>= λ rest. Ok (x ∷ rest) in
+      let m : Result Instruction Refusal = map_err (λ _. BadInstruction index) (decode (get_or bytes (12 + 4 * index) 0) (get_or bytes (12 + 4 * index + 1) 0) (get_or bytes (12 + 4 * index + 2) 0) (get_or bytes (12 + 4 * index + 3) 0) (le32 bytes (immediate_start h + 4 * index))) in
+      sym (then_then m _ rest ∙ then_same m (λ x. then_then (check (target_inside h.instructions x) (BadTarget index)) (λ _. Ok x) rest))
 
   -- with so many instructions left, the next is x, or the refusal e ends all
-  one_more : (index : ℕ) (x : Instruction) → index < h.instructions → value x ≡ instruction_at bytes h index → instructions_from bytes h (h.instructions - index) index ≡ (instructions_from bytes h (h.instructions - (index + 1)) (index + 1) >>= λ rest. value (x ∷ rest))
+  one_more : (index : ℕ) (x : Instruction) → index < h.instructions → Ok x ≡ instruction_at bytes h index → instructions_from bytes h (h.instructions - index) index ≡ (instructions_from bytes h (h.instructions - (index + 1)) (index + 1) >>= λ rest. Ok (x ∷ rest))
   unfolding ◌>>=◌
   one_more index x l e =
       let s : h.instructions - index ≡ suc (h.instructions - (index + 1)) = omega arith in
       ap (λ (k : ℕ). instructions_from bytes h k index) s ∙ step (h.instructions - (index + 1)) index ∙ rw (← e)
 
-  ends : (index : ℕ) (x : Refusal) → index < h.instructions → stop x ≡ instruction_at bytes h index → instructions_from bytes h (h.instructions - index) index ≡ stop x
+  ends : (index : ℕ) (x : Refusal) → index < h.instructions → Err x ≡ instruction_at bytes h index → instructions_from bytes h (h.instructions - index) index ≡ Err x
   unfolding ◌>>=◌
   ends index x l e =
       let s : h.instructions - index ≡ suc (h.instructions - (index + 1)) = omega arith in
       ap (λ (k : ℕ). instructions_from bytes h k index) s ∙ step (h.instructions - (index + 1)) index ∙ rw (← e)
 
-  none_left : (index : ℕ) → h.instructions ≤ index → instructions_from bytes h (h.instructions - index) index ≡ value []
+  none_left : (index : ℕ) → h.instructions ≤ index → instructions_from bytes h (h.instructions - index) index ≡ Ok []
   unfolding instructions_from
   none_left index l = let s : h.instructions - index ≡ 0 = omega arith in ap (λ (k : ℕ). instructions_from bytes h k index) s
 
@@ -87,88 +81,64 @@ module _ (bytes : List ℕ) (h : Header) where
 
   -- ---- the checks alone: those of the first instructions passed
   pub record Checking (index : ℕ) : Type 0 where
-    pub within : index ≤ h.instructions
     pub rest : code_checked (read_code bytes h) ≡ code_checked (instructions_from bytes h (h.instructions - index) index)
 
   pub check_start : Checking 0
-  check_start = record { within = omega arith; rest = ap code_checked all_left }
+  check_start = record { rest = ap code_checked all_left }
 
   -- what is read before does not matter to the checks
-  checked_after : (x : Instruction) (m : Result Refusal (List Instruction)) → code_checked (m >>= λ rest. value (x ∷ rest)) ≡ code_checked m
+  checked_after : (x : Instruction) (m : Result (List Instruction) Refusal) → code_checked (m >>= λ rest. Ok (x ∷ rest)) ≡ code_checked m
   unfolding code_checked ◌>>=◌
-  checked_after x (stop e) = refl
-  checked_after x (value rest) = refl
+  checked_after x (Err e) = refl
+  checked_after x (Ok rest) = refl
 
-  module _ (index : ℕ) (g : Checking index) (r : InstructionAnswer) (e : InstructionRead bytes h index r) (l : index < h.instructions) where
-    pub check_more : (x : Instruction) → r ≡ Passed x → Checking (index + 1)
-    unfolding instruction_result
-    check_more x p = record { within = omega arith; rest = g.rest ∙ ap code_checked (one_more index x l (rw p at e.is)) ∙ checked_after x _ }
+  module _ (index : ℕ) (g : Checking index) (l : index < h.instructions) where
+    pub check_more : (x : Instruction) → Ok x ≡ instruction_at bytes h index → Checking (index + 1)
+    check_more x e = record { rest = g.rest ∙ ap code_checked (one_more index x l e) ∙ checked_after x _ }
 
-    pub check_refused : (x : Refusal) → r ≡ Refused x → answers.Refused x ≡ code_checked (read_code bytes h)
-    unfolding instruction_result code_checked
-    check_refused x p = sym (g.rest ∙ ap code_checked (ends index x l (rw p at e.is)))
+    pub check_refused : (x : Refusal) → Err x ≡ instruction_at bytes h index → Err x ≡ code_checked (read_code bytes h)
+    unfolding code_checked
+    check_refused x e = sym (g.rest ∙ ap code_checked (ends index x l e))
 
-  pub check_done : (index : ℕ) → Checking index → h.instructions ≤ index → answers.Passed ≡ code_checked (read_code bytes h)
+  pub check_done : (index : ℕ) → Checking index → h.instructions ≤ index → Ok tt ≡ code_checked (read_code bytes h)
   unfolding code_checked
   check_done index g l = sym (g.rest ∙ ap code_checked (none_left index l))
 
   -- ---- the code kept in lines: the first instructions stand there
-  pub record Reading (code : List Line) (index : ℕ) : Type 0 where
-    pub within : index ≤ h.instructions
-    pub long : length code ≡ most_instructions
-    pub rest : read_code bytes h ≡ (instructions_from bytes h (h.instructions - index) index >>= λ rest. value (instructions_of (take index code) ++ rest))
-    pub formed : AllFormed h.instructions code
+  pub record Reading (lines : List Instruction) (index : ℕ) : Type 0 where
+    pub long : length lines ≡ most_instructions
+    pub rest : read_code bytes h ≡ (instructions_from bytes h (h.instructions - index) index >>= λ rest. Ok (take index lines ++ rest))
+    pub formed : All (Formed h.instructions) (take index lines)
 
-  value_again : {A : Type 0} (m : Result Refusal A) → m ≡ (m >>= λ a. value a)
+  value_again : {A : Type 0} (m : Result A Refusal) → m ≡ (m >>= λ a. Ok a)
   unfolding ◌>>=◌
-  value_again (stop e) = refl
-  value_again (value a) = refl
+  value_again (Err e) = refl
+  value_again (Ok a) = refl
 
-  pub read_start_lem : (size : ℕ) → size ≡ most_instructions → Reading (replicate size (record { instruction = Return })) 0
-  read_start_lem size e = record {
-    within = omega arith;
-    long = length-replicate size _ ∙ e;
-    rest = all_left ∙ value_again _;
-    formed = returns_formed h.instructions size;
-  }
+  pub read_start_lem : (lines : List Instruction) → length lines ≡ most_instructions → Reading lines 0
+  read_start_lem lines e = record { long = e; rest = all_left ∙ value_again _; formed = All-nil _ }
 
   -- the instruction x goes after those read
-  joined : (m : Result Refusal (List Instruction)) (before : List Instruction) (x : Instruction) → ((m >>= λ rest. value (x ∷ rest)) >>= λ rest. value (before ++ rest)) ≡ (m >>= λ rest. value ((before ++ (x ∷ [])) ++ rest))
+  joined : (m : Result (List Instruction) Refusal) (before : List Instruction) (x : Instruction) → ((m >>= λ rest. Ok (x ∷ rest)) >>= λ rest. Ok (before ++ rest)) ≡ (m >>= λ rest. Ok ((before ++ (x ∷ [])) ++ rest))
   unfolding ◌>>=◌
-  joined (stop e) before x = refl
-  joined (value rest) before x = ap value (sym (append_assoc before (x ∷ []) rest))
+  joined (Err e) before x = refl
+  joined (Ok rest) before x = ap Ok (sym (append_assoc before (x ∷ []) rest))
 
-  module _ (code : List Line) (index : ℕ) (g : Reading code index) (r : InstructionAnswer) (e : InstructionRead bytes h index r) (l : index < h.instructions) (few : h.instructions ≤ most_instructions) where
-    pub read_more : (x : Instruction) → r ≡ Passed x → Reading (set code index (record { instruction = x })) (index + 1)
-    unfolding instruction_result FormedIfPassed
-    read_more x p =
-        let f = subst (λ (y : InstructionAnswer). InstructionRead bytes h index y) p e in
-        let line : Line = record { instruction = x } in
-        let before = instructions_of (take index code) in
-        let t : instructions_of (take (index + 1) (set code index line)) ≡ before ++ (x ∷ []) = map_stored (λ (l : Line). l.instruction) code index line (rw g.long (omega arith)) in
+  module _ (lines : List Instruction) (index : ℕ) (g : Reading lines index) (l : index < h.instructions) where
+    pub read_more : h.instructions ≤ most_instructions → (x : Instruction) → Ok x ≡ instruction_at bytes h index → Formed h.instructions x → Reading (set lines index x) (index + 1)
+    read_more few x e f =
+        let before = take index lines in
+        let t : take (index + 1) (set lines index x) ≡ before ++ (x ∷ []) = take_more_set lines index x (rw g.long (omega arith)) in
         record {
-          within = omega arith;
-          long = length-set code index line ∙ g.long;
-          rest = rw t (g.rest ∙ ap (λ (m : Result Refusal (List Instruction)). m >>= λ rest. value (before ++ rest)) (one_more index x l f.is) ∙ joined _ before x);
-          formed = set_formed h.instructions code index x g.formed f.formed;
+          long = length-set lines index x ∙ g.long;
+          rest = rw t (g.rest ∙ ap (λ (m : Result (List Instruction) Refusal). m >>= λ rest. Ok (before ++ rest)) (one_more index x l e) ∙ joined _ before x);
+          formed = rw t (All-push (Formed h.instructions) before x g.formed f);
         }
 
-    pub read_refused : (x : Refusal) → r ≡ Refused x → CodeMet bytes h (record { answer = answers.Refused x; code = code })
-    unfolding instruction_result code_of_lines ◌>>=◌
-    read_refused x p =
-        let q : stop x ≡ instruction_at bytes h index = rw p at e.is in
-        record {
-          is = sym (g.rest ∙ rw (ends index x l q));
-          long = g.long;
-          formed = g.formed;
-        }
+    pub read_refused : (x : Refusal) → Err x ≡ instruction_at bytes h index → Err x ≡ read_code bytes h
+    unfolding ◌>>=◌
+    read_refused x e = sym (g.rest ∙ rw (ends index x l e))
 
-  pub read_done : (code : List Line) (index : ℕ) → Reading code index → h.instructions ≤ index → CodeMet bytes h (record { answer = answers.Passed; code = code })
-  unfolding code_of_lines ◌>>=◌
-  read_done code index g l =
-      let same : index ≡ h.instructions = omega arith in
-      record {
-        is = sym (g.rest ∙ rw (none_left index l, append-nil, same));
-        long = g.long;
-        formed = g.formed;
-      }
+  pub read_done : (lines : List Instruction) (index : ℕ) → Reading lines index → h.instructions ≡ index → Ok (take h.instructions lines) ≡ read_code bytes h
+  unfolding ◌>>=◌
+  read_done lines index g same = sym (g.rest ∙ rw (none_left index (omega arith), append-nil, same))

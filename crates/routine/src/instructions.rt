@@ -1,98 +1,77 @@
 // The instructions of a package: checks 8 and 9.
-ghost use Rattle.std.specs.Prelude.{◌≡◌, ◌<◌};
-ghost use Rattle.model.specs.Package.{read_code};
-ghost use Rattle.header.specs.Headers.{Fits};
-ghost use Rattle.routine.specs.Code.{InstructionRead, code_checked, CodeMet};
+ghost use Rattle.std.specs.Prelude.{◌≡◌, ◌<◌, ◌≤◌, IfOk, All, List, length, take};
+ghost use Rattle.model.specs.Package.{most_instructions, read_code};
+ghost use Rattle.model.specs.declared.Instruction.{Instruction};
+ghost use Rattle.decoding.specs.Decoding.{Formed};
+ghost use Rattle.routine.specs.Code.{instruction_at, code_checked};
 
-use decoding::Decoded;
+use header::package::Package;
 use limits::MOST_INSTRUCTIONS;
-use model::{Header, Instruction, Refusal};
-
-#[derive(Clone, Copy)]
-pub enum InstructionAnswer {
-    Passed(Instruction),
-    Refused(Refusal),
-}
+use model::{Instruction, Refusal};
+use std::marker::Model;
 
 // The instruction at an index, or what check 8 or 9 refuses there.
-pub fn instruction(bytes: &[u8], header: Header, index: usize) -> InstructionAnswer
-    requires fits { Fits bytes.now header }
-    requires index_lt_instructions { index < header.instructions }
-    ensures { InstructionRead bytes.now header index result }
+pub fn instruction(routine: &Package, index: usize) -> Result<Instruction, Refusal>
+    requires { index < routine.now.header.instructions }
+    ensures is { result ≡ instruction_at routine.now.bytes.now routine.now.header index }
+    ensures formed { IfOk result (Formed routine.now.header.instructions) }
 {
+    let bytes = routine.bytes;
+    let count = routine.header.instructions;
     let at = 12 + 4 * index;
-    let i = fields::word(bytes, 12 + 4 * header.instructions + 4 * index);
+    let i = fields::word(bytes, 12 + 4 * count + 4 * index);
     let decoded = decoding::decode(bytes[at], bytes[at + 1], bytes[at + 2], bytes[at + 3], i);
-    let Decoded::Good(instruction) = decoded else {
-        return InstructionAnswer::Refused(Refusal::BadInstruction(index));
-    };
-    if decoding::target_inside(header.instructions, instruction) {
-        return InstructionAnswer::Passed(instruction);
+    let instruction = decoded.map_err(|_| Refusal::BadInstruction(index))?;
+    if !decoding::target_inside(count, instruction) {
+        return Err(Refusal::BadTarget(index));
     }
-    InstructionAnswer::Refused(Refusal::BadTarget(index))
-}
-
-#[derive(Clone, Copy)]
-pub enum CodeAnswer {
-    Passed,
-    Refused(Refusal),
+    Ok(instruction)
 }
 
 // Checks 8 and 9 of every instruction in turn.
-pub fn check_code(bytes: &[u8], header: Header) -> CodeAnswer
-    requires { Fits bytes.now header }
-    ensures { result ≡ code_checked (read_code bytes.now header) }
+pub fn check_code(routine: &Package) -> Result<(), Refusal>
+    ensures { result ≡ code_checked (read_code routine.now.bytes.now routine.now.header) }
 {
-    let mut index = 0;
-    while index < header.instructions {
-        let answer = instruction(bytes, header, index);
-        if let InstructionAnswer::Refused(refusal) = answer {
-            return CodeAnswer::Refused(refusal);
-        }
-        index += 1;
+    for index in 0..routine.header.instructions {
+        instruction(routine, index)?;
     }
-    CodeAnswer::Passed
+    Ok(())
 }
 
-// A place for an instruction in an array.
-#[derive(Clone, Copy)]
-pub struct Line {
-    pub instruction: Instruction,
+// The instructions of a package that passes checks 8 and 9: the first `size` of `lines`.
+#[derive(Drop)]
+pub struct Code {
+    size: usize,
+    lines: [Instruction; MOST_INSTRUCTIONS],
 }
 
-// What reading the code gives: the instructions stand in the first lines where it passes.
-#[derive(Clone, Copy)]
-pub struct CodeRead {
-    pub answer: CodeAnswer,
-    pub code: [Line; MOST_INSTRUCTIONS],
+impl Model for Code {
+    ghost Value = { List Instruction };
+
+    ghost view = { λ code. take code.size code.lines };
+
+    ghost invariant = { λ code. (code.size ≤ most_instructions)
+        × All (Formed code.size) (take code.size code.lines) };
+}
+
+impl Code {
+    // The instructions; each is formed for a code of their number.
+    pub fn as_slice(&self) -> &[Instruction]
+        ensures same { result.now ≡ self.now }
+        ensures formed { All (Formed (length self.now)) self.now }
+    {
+        &self.lines[..self.size]
+    }
 }
 
 // The instructions of a package, or what check 8 or 9 refuses.
-pub fn read_code(bytes: &[u8], header: Header) -> CodeRead
-    requires { Fits bytes.now header }
-    ensures { CodeMet bytes.now header result }
+pub fn read_code(routine: &Package) -> Result<Code, Refusal>
+    ensures { result ≡ read_code routine.now.bytes.now routine.now.header }
 {
-    let mut code = [Line {
-        instruction: Instruction::Return,
-    }; MOST_INSTRUCTIONS];
-    let mut index = 0;
-    while index < header.instructions {
-        let answer = instruction(bytes, header, index);
-        match answer {
-            InstructionAnswer::Passed(next) => {
-                code[index] = Line { instruction: next };
-                index += 1;
-            }
-            InstructionAnswer::Refused(refusal) => {
-                return CodeRead {
-                    answer: CodeAnswer::Refused(refusal),
-                    code,
-                };
-            }
-        }
+    let size = routine.header.instructions;
+    let mut lines = [Instruction::Return; MOST_INSTRUCTIONS];
+    for index in 0..size {
+        lines[index] = instruction(routine, index)?;
     }
-    CodeRead {
-        answer: CodeAnswer::Passed,
-        code,
-    }
+    Ok(Code { size, lines })
 }

@@ -10,35 +10,27 @@ use native.Mathlib.Decide.{dec_lt}
 use lib.Dec.{lit<}
 use lib.ListN.{length, get_or, get_elem?}
 use borrow.Author.Tests.{le-leb, lt-leb}
-use denote.Enum.Declared.{tag_of as variant, declared}
-use Rattle.model.specs.Result.{Result, stop, value, ◌>>=◌, check, found, stop_as}
+use Rattle.model.specs.Result.{Result, Err, Ok, ◌>>=◌, check, found, map_err}
 use Rattle.model.specs.Word.{le16}
 use Rattle.model.specs.Term.{Term}
 use Rattle.model.specs.Field.{byte_at, half_at}
-use Rattle.model.specs.Expression.{expression_at, most_nodes, register_count}
+use Rattle.model.specs.Expression.{expression_at, register_count}
+use Rattle.model.specs.Goals.{register_variables}
 use Rattle.model.specs.Rule.{Rule, Format, plain, with_index, with_term, with_region, rules}
 use Rattle.model.specs.Derivation.{proof_refusal, proof_field, rule_at}
+use Rattle.model.specs.declared.ReadError.{ReadError}
 use Rattle.model.specs.declared.Refusal.{Refusal}
 use Rattle.model.specs.declared.Refusal.TheVariants.{ProofExhausted, UnfitRule}
 use Rattle.model.proofs.Lists.{Every, empty, ◌&◌}
-use Rattle.nodes.specs.Table.{place, term_at, Formed}
-use Rattle.leaf_reader.specs.Leaves.{Ready}
-use Rattle.term_reader.specs.Reader.{expression_answer, ExpressionRead}
-use Rattle.leaf_reader.specs.declared.Parse.{Parse}
-use Rattle.leaf_reader.specs.declared.Parse.TheVariants.{Term as Found, Missing, Fault}
-use Rattle.nodes.proofs.Table.{formed_less}
-use Rattle.workspace.proofs.Frames.{same_refl}
-use Rattle.term_reader.proofs.Building.{Refused as NoTerm, no_term}
+use Rattle.nodes.specs.Table.{term_at}
+use Rattle.leaf_reader.specs.Leaves.{variable_term}
+use Rattle.term_reader.specs.Reader.{RegisterTerms, expression_over}
 use Rattle.term_reader.proofs.Substitution.{expression_self}
-use Rattle.rule_reader.specs.Opening.{form_of, refusal_of, Begun, register_nodes, Opening, Opens}
-use Rattle.claims.specs.Rule.{rule_in, rule_of}
-use Rattle.rule_reader.specs.declared.Form.{Form}
-use Rattle.rule_reader.specs.declared.Form.TheVariants.{Plain, Index, Argument, Region, Unknown}
-use Rattle.rule_reader.specs.declared.Opened.TheVariants.{Rule as OpenRule, Refused}
-use Rattle.rule_reader.specs.contracts.Form.{enum}
+use Rattle.rule_reader.specs.Opening.{rule_of_format, rule_of_row, term_answer, ArgumentAnswer, register_nodes}
+use Rattle.rule_reader.specs.declared.Argument.{Argument}
 use Rattle.model_laws.proofs.Steps.{stops, goes_on, not_found, is_found}
 
--- ---- what stands after a rule byte
+-- ---- numbers in turn
 pub down_from : ℕ → List ℕ
 down_from zero = []
 down_from (suc n) = n ∷ down_from n
@@ -54,173 +46,194 @@ past_end [] n h = refl
 past_end (x ∷ l) zero h = absurd (omega arith)
 past_end (x ∷ l) (suc n) h = past_end l n (omega arith)
 
--- so many rows of the table of rules, from a number on, have a form
-abbrev Rows : Form → (from count : ℕ) → Type 0
-Rows form from count = Every (λ k. form ≡ form_of (get_elem? rules (from + k))) (down_from count)
+-- ---- what stands after a rule byte, by its row: nothing, an index, a term or a region's number
+pub reading : Option Format → ℕ
+reading none = 0
+reading (some (plain rule)) = 0
+reading (some (with_index rule)) = 1
+reading (some (with_term rule)) = 2
+reading (some (with_region rule)) = 3
 
-pub plain_low : Rows Plain 1 4
-unfolding down_from
+-- so many rows of the table of rules, from a number on, are read so
+abbrev Rows : (kind from count : ℕ) → Type 0
+Rows kind from count = Every (λ k. kind ≡ reading (get_elem? rules (from + k))) (down_from count)
+
+plain_low : Rows 0 1 4
+unfolding down_from reading
 plain_low = search (◌&◌, empty) depth 60
 
-pub arguments : Rows Argument 5 4
-unfolding down_from
-arguments = search (◌&◌, empty) depth 60
+terms : Rows 2 5 4
+unfolding down_from reading
+terms = search (◌&◌, empty) depth 60
 
-pub plain_high : Rows Plain 9 13
-unfolding down_from
+plain_high : Rows 0 9 13
+unfolding down_from reading
 plain_high = search (◌&◌, empty) depth 60
 
-pub regions : Rows Region 22 2
-unfolding down_from
+regions : Rows 3 22 2
+unfolding down_from reading
 regions = search (◌&◌, empty) depth 60
 
-pub plain_last : Rows Plain 25 3
-unfolding down_from
+plain_last : Rows 0 25 3
+unfolding down_from reading
 plain_last = search (◌&◌, empty) depth 60
 
-module _ {n : ℕ} where
-  pub form_row : (k : ℕ) → n ≡ k → form_of (get_elem? rules k) ≡ form_of (get_elem? rules n)
-  form_row k e = ap (λ i. form_of (get_elem? rules i)) (sym e)
-
-  pub form_rows : {form : Form} (from count : ℕ) → Rows form from count → from ≤ n → n < from + count → form ≡ form_of (get_elem? rules n)
-  form_rows {form} from count r l h =
+module _ (n : ℕ) where
+  rows : {kind : ℕ} (from count : ℕ) → Rows kind from count → from ≤ n → n < from + count → kind ≡ reading (get_elem? rules n)
+  rows {kind} from count r l h =
       let e : from + (n - from) ≡ n = omega arith in
-      subst (λ i. form ≡ form_of (get_elem? rules i)) e (each_below count r (n - from) (omega arith))
+      subst (λ i. kind ≡ reading (get_elem? rules i)) e (each_below count r (n - from) (omega arith))
 
-  pub form_unknown : 28 ≤ n → Unknown ≡ form_of (get_elem? rules n)
-  form_unknown h = ap form_of (sym (past_end rules n (omega arith)))
+  pub row_index : n ≡ 0 → 1 ≡ reading (get_elem? rules n)
+  unfolding reading
+  row_index e = ap (λ i. reading (get_elem? rules i)) (sym e)
 
--- ---- the row of a form
-clash : {A : Type 0} {f g : Form} → f ≡ g → (variant (declared enum) f ≡ variant (declared enum) g → ⊥) → A
-clash e k = absurd (k (ap (variant (declared enum)) e))
+  pub row_term : 4 < n → (8 < n → n ≡ 24) → 2 ≡ reading (get_elem? rules n)
+  unfolding reading
+  row_term l h = go (dec_lt n 9)
+    where
+      go : Dec (n < 9) → 2 ≡ reading (get_elem? rules n)
+      go (yes a) = rows 5 4 terms l (omega arith)
+      go (no a) = ap (λ i. reading (get_elem? rules i)) (sym (h (omega arith)))
 
-abbrev RowOf : Form → Option Format → Type 0
-RowOf Plain o = (rule : Rule) × (o ≡ some (plain rule))
-RowOf Index o = (rule : ℕ → Rule) × (o ≡ some (with_index rule))
-RowOf Argument o = (rule : Term → Rule) × (o ≡ some (with_term rule))
-RowOf Region o = (rule : ℕ → Rule) × (o ≡ some (with_region rule))
-RowOf Unknown o = o ≡ none
+  pub row_regions : 21 < n → n < 24 → 3 ≡ reading (get_elem? rules n)
+  row_regions l h = rows 22 2 regions l (omega arith)
 
-row : (o : Option Format) → RowOf (form_of o) o
-row none = refl
-row (some (plain rule)) = (rule, refl)
-row (some (with_index rule)) = (rule, refl)
-row (some (with_term rule)) = (rule, refl)
-row (some (with_region rule)) = (rule, refl)
+  pub row_plain : 0 < n → (4 < n → 8 < n) → (21 < n → 24 < n) → 0 ≡ reading (get_elem? rules n)
+  unfolding reading
+  row_plain z l h = go (dec_lt n 5) (dec_lt n 22) (dec_lt n 28)
+    where
+      go : Dec (n < 5) → Dec (n < 22) → Dec (n < 28) → 0 ≡ reading (get_elem? rules n)
+      go (yes a) b c = rows 1 4 plain_low z (omega arith)
+      go (no a) (yes b) c = rows 9 13 plain_high (omega arith) (omega arith)
+      go (no a) (no b) (yes c) = rows 25 3 plain_last (omega arith) (omega arith)
+      go (no a) (no b) (no c) = ap reading (sym (past_end rules n (omega arith)))
 
-row_of : (n : ℕ) (form : Form) → form ≡ form_of (get_elem? rules n) → RowOf form (get_elem? rules n)
-row_of n form e = subst (λ f. RowOf f (get_elem? rules n)) (sym e) (row (get_elem? rules n))
-
--- a row that is there
-known_row : (n : ℕ) {f : Form} → f ≡ form_of (get_elem? rules n) → (f ≡ Unknown → ⊥) → n < length rules
-known_row n e k = go (dec_lt n (length rules))
-  where
-    go : Dec (n < length rules) → n < length rules
-    go (yes h) = h
-    go (no h) = absurd (k (e ∙ ap form_of (past_end rules n (omega arith))))
+  pub row_unknown : 28 ≤ n → none ≡ get_elem? rules n
+  row_unknown h = sym (past_end rules n (omega arith))
 
 -- ---- fields of the proof
 module _ (bytes : List ℕ) where
-  byte_missing : (p : ℕ) → length bytes ≤ p → stop (ProofExhausted (length bytes)) ≡ proof_field bytes (byte_at bytes (length bytes) p)
-  unfolding byte_at check ◌>>=◌ stop_as proof_refusal
+  pub byte_missing : (p : ℕ) → length bytes ≤ p → Err (ProofExhausted (length bytes)) ≡ proof_field bytes (byte_at bytes (length bytes) p)
+  unfolding byte_at check ◌>>=◌ map_err proof_refusal
   byte_missing p h = rw (lt-leb (p + 1) (length bytes) (omega arith), byte_at)
 
-  byte_there : (p : ℕ) {n : ℕ} → p < length bytes → n ≡ get_or bytes p 0 → value n ≡ proof_field bytes (byte_at bytes (length bytes) p)
-  unfolding byte_at check ◌>>=◌ stop_as
-  byte_there p h e = rw (le-leb (p + 1) (length bytes) (omega arith), byte_at) (ap value e)
+  pub byte_there : (p : ℕ) {n : ℕ} → p < length bytes → n ≡ get_or bytes p 0 → Ok n ≡ proof_field bytes (byte_at bytes (length bytes) p)
+  unfolding byte_at check ◌>>=◌ map_err
+  byte_there p h e = rw (le-leb (p + 1) (length bytes) (omega arith), byte_at) (ap Ok e)
 
-  half_missing : (p : ℕ) → length bytes < p + 2 → stop (ProofExhausted (length bytes)) ≡ proof_field bytes (half_at bytes (length bytes) p)
-  unfolding half_at check ◌>>=◌ stop_as proof_refusal
+  pub half_missing : (p : ℕ) → length bytes < p + 2 → Err (ProofExhausted (length bytes)) ≡ proof_field bytes (half_at bytes (length bytes) p)
+  unfolding half_at check ◌>>=◌ map_err proof_refusal
   half_missing p h = rw (lt-leb (p + 2) (length bytes) h, half_at)
 
-  half_there : (p : ℕ) {n : ℕ} → p + 2 ≤ length bytes → n ≡ le16 bytes p → value n ≡ proof_field bytes (half_at bytes (length bytes) p)
-  unfolding half_at check ◌>>=◌ stop_as
-  half_there p h e = rw (le-leb (p + 2) (length bytes) h, half_at) (ap value e)
+  pub half_there : (p : ℕ) {n : ℕ} → p + 2 ≤ length bytes → n ≡ le16 bytes p → Ok n ≡ proof_field bytes (half_at bytes (length bytes) p)
+  unfolding half_at check ◌>>=◌ map_err
+  half_there p h e = rw (le-leb (p + 2) (length bytes) h, half_at) (ap Ok e)
 
--- ---- the answers, a rule byte being there
-module _ {bytes : List ℕ} {number at : ℕ} {form : Form} (b : Begun bytes number at form) where
+-- ---- a row that is there
+row_there : {kind : ℕ} {o : Option Format} → kind ≡ reading o → 0 < kind → (format : Format) × (o ≡ some format)
+unfolding reading
+row_there {o = none} k s = absurd (omega arith)
+row_there {o = some format} k s = (format, refl)
+
+-- ---- a row and its rule
+pub no_row : (us : List ℕ) (n : ℕ) {o : Option Format} → none ≡ rule_of_row us n o → none ≡ o
+no_row us n {o = none} h = refl
+no_row us n {o = some format} h = cc
+
+pub rule_opened : (us : List ℕ) {n next : ℕ} {rule : Rule} (o : Option Format) {x : Result (Rule × ℕ) Refusal} → some rule ≡ rule_of_row us n o → ((format : Format) → o ≡ some format → Ok (rule_of_format us n format, next) ≡ x) → Ok (rule, next) ≡ x
+rule_opened us none h k = cc
+rule_opened us {n} {next} {rule} (some format) h k = let e : rule ≡ rule_of_format us n format = cc in rw e (k format refl)
+
+-- ---- the rule at a position whose byte is a number
+module _ (bytes : List ℕ) (variables at : ℕ) {number : ℕ} (b : Ok number ≡ proof_field bytes (byte_at bytes (length bytes) at)) where
+  pub opened_unknown : none ≡ get_elem? rules number → Err (UnfitRule at) ≡ rule_at bytes variables at
+  unfolding rule_at
+  opened_unknown u = goes_on _ b (stops _ (not_found (UnfitRule at) (sym u)))
+
   -- what stands in the row of its rule
-  at_row : {A : Type 0} (f : Format → Result Refusal A) {row : Format} {x : Result Refusal A} → get_elem? rules number ≡ some row → x ≡ f row
+  at_row : {A : Type 0} (f : Format → Result A Refusal) {row : Format} {x : Result A Refusal} → get_elem? rules number ≡ some row → x ≡ f row
       → x ≡ (proof_field bytes (byte_at bytes (length bytes) at) >>= λ n. found (get_elem? rules n) (UnfitRule at) >>= f)
-  at_row f e h = goes_on _ (byte_there bytes at b.there b.is) (goes_on f (is_found (UnfitRule at) e) h)
+  at_row f e h = goes_on _ b (goes_on f (is_found (UnfitRule at) e) h)
 
-module _ {bytes : List ℕ} {number at : ℕ} (us : List ℕ) (variables : ℕ) where
-  opened_plain : Begun bytes number at Plain → (v : ℕ) → value (rule_of us number v, at + 1) ≡ rule_at bytes variables at
-  unfolding rule_at rule_of
-  opened_plain b v = let (rule, e) = row_of number Plain b.kind in at_row b _ e (ap (λ o. value (rule_in us v o, at + 1)) e)
+  -- what stands after the byte, and then the rule of its row
+  module _ (us : List ℕ) where
+    plain_opened : (format : Format) → get_elem? rules number ≡ some format → 0 ≡ reading (some format) → Ok (rule_of_format us 0 format, at + 1) ≡ rule_at bytes variables at
+    unfolding rule_at reading
+    plain_opened (plain rule) e k = at_row _ e refl
+    plain_opened (with_index rule) e k = absurd (omega arith)
+    plain_opened (with_term rule) e k = absurd (omega arith)
+    plain_opened (with_region rule) e k = absurd (omega arith)
 
-  opened_unknown : Begun bytes number at Unknown → stop (UnfitRule at) ≡ rule_at bytes variables at
-  unfolding rule_at
-  opened_unknown b = goes_on _ (byte_there bytes at b.there b.is) (stops _ (not_found (UnfitRule at) (row_of number Unknown b.kind)))
+    index_opened : {x : Result ℕ Refusal} → x ≡ proof_field bytes (half_at bytes (length bytes) (at + 1)) → (format : Format) → get_elem? rules number ≡ some format → 1 ≡ reading (some format)
+        → (x >>= λ v. Ok (rule_of_format us v format, at + 3)) ≡ rule_at bytes variables at
+    unfolding rule_at reading
+    index_opened h (plain rule) e k = absurd (omega arith)
+    index_opened h (with_index rule) e k = at_row _ e (ap (λ x. x >>= λ v. Ok (rule v, at + 3)) h)
+    index_opened h (with_term rule) e k = absurd (omega arith)
+    index_opened h (with_region rule) e k = absurd (omega arith)
 
-  module _ (b : Begun bytes number at Index) where
-    opened_index_missing : length bytes - at < 3 → stop (ProofExhausted (length bytes)) ≡ rule_at bytes variables at
+    term_opened : {x : Result (Term × ℕ) Refusal} → x ≡ proof_field bytes (expression_at bytes (length bytes) variables (at + 1)) → (rule : Term → Rule) → get_elem? rules number ≡ some (with_term rule)
+        → (x >>= λ z. Ok (rule z.0, z.1)) ≡ rule_at bytes variables at
     unfolding rule_at
-    opened_index_missing h = let (rule, e) = row_of number Index b.kind in at_row b _ e (stops _ (half_missing bytes (at + 1) (omega (arith, b.there))))
+    term_opened h rule e = at_row _ e (ap (λ x. x >>= λ z. Ok (rule z.0, z.1)) h)
 
-    opened_index : {v : ℕ} → 3 ≤ length bytes - at → v ≡ le16 bytes (at + 1) → value (rule_of us number v, at + 3) ≡ rule_at bytes variables at
-    unfolding rule_at rule_of
-    opened_index {v} h k =
-        let (rule, e) = row_of number Index b.kind in
-        at_row b _ e (goes_on _ (half_there bytes (at + 1) (omega (arith, b.there)) k) (ap (λ o. value (rule_in us v o, at + 3)) e))
+    region_opened : {x : Result ℕ Refusal} → x ≡ proof_field bytes (byte_at bytes (length bytes) (at + 1)) → (format : Format) → get_elem? rules number ≡ some format → 3 ≡ reading (some format)
+        → (x >>= λ v. Ok (rule_of_format us v format, at + 2)) ≡ rule_at bytes variables at
+    unfolding rule_at reading
+    region_opened h (plain rule) e k = absurd (omega arith)
+    region_opened h (with_index rule) e k = absurd (omega arith)
+    region_opened h (with_term rule) e k = absurd (omega arith)
+    region_opened h (with_region rule) e k = at_row _ e (ap (λ x. x >>= λ v. Ok (rule v, at + 2)) h)
 
-  module _ (b : Begun bytes number at Region) where
-    opened_region_missing : length bytes - at < 2 → stop (ProofExhausted (length bytes)) ≡ rule_at bytes variables at
-    unfolding rule_at
-    opened_region_missing h = let (rule, e) = row_of number Region b.kind in at_row b _ e (stops _ (byte_missing bytes (at + 1) (omega (arith, b.there))))
+    pub plain_read : 0 ≡ reading (get_elem? rules number) → (format : Format) → get_elem? rules number ≡ some format → Ok (rule_of_format us 0 format, at + 1) ≡ rule_at bytes variables at
+    plain_read k format e = plain_opened format e (k ∙ ap reading e)
 
-    opened_region : {v : ℕ} → 2 ≤ length bytes - at → v ≡ get_or bytes (at + 1) 0 → value (rule_of us number v, at + 2) ≡ rule_at bytes variables at
-    unfolding rule_at rule_of
-    opened_region {v} h k =
-        let (rule, e) = row_of number Region b.kind in
-        at_row b _ e (goes_on _ (byte_there bytes (at + 1) (omega (arith, b.there)) k) (ap (λ o. value (rule_in us v o, at + 2)) e))
+    pub index_read : {v : ℕ} → 1 ≡ reading (get_elem? rules number) → Ok v ≡ proof_field bytes (half_at bytes (length bytes) (at + 1)) → (format : Format) → get_elem? rules number ≡ some format → Ok (rule_of_format us v format, at + 3) ≡ rule_at bytes variables at
+    unfolding ◌>>=◌
+    index_read k h format e = index_opened h format e (k ∙ ap reading e)
 
-  module _ (b : Begun bytes number at Argument) where
-    opened_argument : (m : ℕ) {next : ℕ} → value (term_at us m, next) ≡ expression_at bytes (length bytes) variables (at + 1) → value (rule_of us number m, next) ≡ rule_at bytes variables at
-    unfolding rule_at rule_of stop_as
-    opened_argument m {next} h = let (rule, e) = row_of number Argument b.kind in at_row b _ e (goes_on _ (ap (proof_field bytes) h) (ap (λ o. value (rule_in us m o, next)) e))
+    pub region_read : {v : ℕ} → 3 ≡ reading (get_elem? rules number) → Ok v ≡ proof_field bytes (byte_at bytes (length bytes) (at + 1)) → (format : Format) → get_elem? rules number ≡ some format → Ok (rule_of_format us v format, at + 2) ≡ rule_at bytes variables at
+    unfolding ◌>>=◌
+    region_read k h format e = region_opened h format e (k ∙ ap reading e)
 
-    opened_no_argument : (r : Parse) → NoTerm r → expression_answer us r ≡ expression_at bytes (length bytes) variables (at + 1) → stop (refusal_of r (length bytes)) ≡ rule_at bytes variables at
-    unfolding rule_at stop_as proof_refusal
-    opened_no_argument r o h = let (rule, e) = row_of number Argument b.kind in at_row b _ e (stops _ (refuses r o ∙ ap (proof_field bytes) h))
-      where
-        refuses : (r : Parse) → NoTerm r → stop (refusal_of r (length bytes)) ≡ proof_field bytes (expression_answer us r)
-        refuses (Found m n l t) o = no_term o
-        refuses Missing o = refl
-        refuses (Fault p) o = refl
+  pub index_refused : {e : Refusal} → 1 ≡ reading (get_elem? rules number) → Err e ≡ proof_field bytes (half_at bytes (length bytes) (at + 1)) → Err e ≡ rule_at bytes variables at
+  unfolding ◌>>=◌
+  index_refused k h = let (format, e) = row_there k (omega arith) in index_opened [] h format e (k ∙ ap reading e)
 
--- ---- the ways out
-module _ {bytes ws : List ℕ} {variables top at : ℕ} (f : Formed ws top) where
-  opens_refused : {r : Refusal} → stop r ≡ rule_at bytes variables at → Opens bytes ws ws variables top at (Refused r)
-  opens_refused e = record { answer = e; kept = same_refl 0 (place top) ws; formed = f; above = omega arith; few = omega arith; known = tt }
+  pub region_refused : {e : Refusal} → 3 ≡ reading (get_elem? rules number) → Err e ≡ proof_field bytes (byte_at bytes (length bytes) (at + 1)) → Err e ≡ rule_at bytes variables at
+  unfolding ◌>>=◌
+  region_refused k h = let (format, e) = row_there k (omega arith) in region_opened [] h format e (k ∙ ap reading e)
 
-  opens_rule : {number v next : ℕ} → value (rule_of ws number v, next) ≡ rule_at bytes variables at → {form : Form} → form ≡ form_of (get_elem? rules number) → (form ≡ Unknown → ⊥) → (form ≡ Argument → ⊥) → Opens bytes ws ws variables top at (OpenRule number v next top)
-  opens_rule {number} e k m n = record { answer = e; kept = same_refl 0 (place top) ws; formed = f; above = omega arith; few = omega arith; known = (known_row number k m, λ a. absurd (n (k ∙ sym a))) }
+  term_refused : {e : Refusal} → Err e ≡ proof_field bytes (expression_at bytes (length bytes) variables (at + 1)) → (format : Format) → get_elem? rules number ≡ some format → 2 ≡ reading (some format) → Err e ≡ rule_at bytes variables at
+  unfolding ◌>>=◌ reading
+  term_refused h (plain rule) e k = absurd (omega arith)
+  term_refused h (with_index rule) e k = absurd (omega arith)
+  term_refused h (with_term rule) e k = term_opened [] h rule e
+  term_refused h (with_region rule) e k = absurd (omega arith)
 
-  pub opens_missing : length bytes ≤ at → Opens bytes ws ws variables top at (Refused (ProofExhausted (length bytes)))
-  unfolding rule_at
-  opens_missing h = opens_refused (stops _ (byte_missing bytes at h))
+  term_there : (us : List ℕ) (v : ℕ) {next : ℕ} → Ok (term_at us v, next) ≡ proof_field bytes (expression_at bytes (length bytes) variables (at + 1)) → (format : Format) → get_elem? rules number ≡ some format → 2 ≡ reading (some format)
+      → Ok (rule_of_format us v format, next) ≡ rule_at bytes variables at
+  unfolding ◌>>=◌ reading
+  term_there us v h (plain rule) e k = absurd (omega arith)
+  term_there us v h (with_index rule) e k = absurd (omega arith)
+  term_there us v h (with_term rule) e k = term_opened us h rule e
+  term_there us v h (with_region rule) e k = absurd (omega arith)
 
-  module _ {number : ℕ} where
-    pub opens_plain : (v : ℕ) → Begun bytes number at Plain → Opens bytes ws ws variables top at (OpenRule number v (at + 1) top)
-    opens_plain v b = opens_rule (opened_plain ws variables b v) b.kind (λ a. clash a (omega arith)) (λ a. clash a (omega arith))
+  pub term_read : (us : List ℕ) (r : Result Argument Refusal) → 2 ≡ reading (get_elem? rules number) → term_answer us r ≡ proof_field bytes (expression_at bytes (length bytes) variables (at + 1)) → ArgumentAnswer bytes us variables at (get_elem? rules number) r
+  unfolding ◌>>=◌ reading
+  term_read us (Err e) k h = let (format, row) = row_there k (omega arith) in term_refused h format row (k ∙ ap reading row)
+  term_read us (Ok x) k h = λ format e. term_there us x.value h format e (k ∙ ap reading e)
 
-    pub opens_unknown : Begun bytes number at Unknown → Opens bytes ws ws variables top at (Refused (UnfitRule at))
-    opens_unknown b = opens_refused (opened_unknown ws variables b)
+-- ---- an argument, over the registers' own variables
+module _ (bytes : List ℕ) (limit at : ℕ) {ws : List ℕ} (o : RegisterTerms ws register_nodes register_variables) where
+  pub argument_refused : {x : Refusal} {e : ReadError} → Err e ≡ expression_over (variable_term ws register_nodes) (expression_at bytes (length bytes) limit at) → x ≡ proof_refusal bytes e → Err x ≡ proof_field bytes (expression_at bytes (length bytes) limit at)
+  unfolding map_err
+  argument_refused h k = ap Err k ∙ ap (proof_field bytes) (h ∙ expression_self o _)
 
-    module _ (b : Begun bytes number at Index) where
-      pub opens_index_missing : length bytes - at < 3 → Opens bytes ws ws variables top at (Refused (ProofExhausted (length bytes)))
-      opens_index_missing h = opens_refused (opened_index_missing ws variables b h)
-
-      pub opens_index : {v : ℕ} → 3 ≤ length bytes - at → v ≡ le16 bytes (at + 1) → Opens bytes ws ws variables top at (OpenRule number v (at + 3) top)
-      opens_index h k = opens_rule (opened_index ws variables b h k) b.kind (λ a. clash a (omega arith)) (λ a. clash a (omega arith))
-
-    module _ (b : Begun bytes number at Region) where
-      pub opens_region_missing : length bytes - at < 2 → Opens bytes ws ws variables top at (Refused (ProofExhausted (length bytes)))
-      opens_region_missing h = opens_refused (opened_region_missing ws variables b h)
-
-      pub opens_region : {v : ℕ} → 2 ≤ length bytes - at → v ≡ get_or bytes (at + 1) 0 → Opens bytes ws ws variables top at (OpenRule number v (at + 2) top)
-      opens_region h k = opens_rule (opened_region ws variables b h k) b.kind (λ a. clash a (omega arith)) (λ a. clash a (omega arith))
+  pub argument_found : {z : Term × ℕ} → Ok z ≡ expression_over (variable_term ws register_nodes) (expression_at bytes (length bytes) limit at) → Ok z ≡ proof_field bytes (expression_at bytes (length bytes) limit at)
+  unfolding map_err
+  argument_found h = ap (proof_field bytes) (h ∙ expression_self o _)
 
 -- the registers' nodes are those of the table's first variables
 nodes_below : Every (λ k. get_or register_nodes k 0 < register_count) (down_from register_count)
@@ -229,31 +242,3 @@ nodes_below = search (◌&◌, empty, lit<, tt) depth 60
 
 pub register_below : (v : ℕ) → v < register_count → get_or register_nodes v 0 < register_count
 register_below v h = each_below register_count nodes_below v h
-
-pub opening_ready : {ws : List ℕ} {variables top : ℕ} → Opening ws variables top → Ready ws register_nodes top most_nodes
-opening_ready o = record { formed = o.formed; space = o.space; held = λ v h. omega (arith, register_below v h, o.above) }
-
-module _ {bytes ws us : List ℕ} {variables top at number : ℕ} (b : Begun bytes number at Argument) (o : Opening ws variables top) where
-  pub opens_argument : {m next left high : ℕ} → ExpressionRead ws us register_nodes bytes (length bytes) variables (at + 1) top (Found m next left high) → Opens bytes ws us variables top at (OpenRule number m next high)
-  opens_argument {m} r = record {
-    answer = opened_argument us variables b m (r.answer ∙ expression_self o.registers _);
-    kept = r.grown.kept;
-    formed = r.grown.formed;
-    above = r.grown.grows;
-    few = omega (arith, r.grown.few);
-    known = (known_row number b.kind (λ a. clash a (omega arith)), λ _. r.grown.within.0);
-  }
-
-  pub opens_no_argument : (r : Parse) {x : Refusal} → NoTerm r → ExpressionRead ws us register_nodes bytes (length bytes) variables (at + 1) top r → x ≡ refusal_of r (length bytes) → Opens bytes ws us variables top at (Refused x)
-  opens_no_argument r n a e = record {
-    answer = ap stop e ∙ opened_no_argument us variables b r n (a.answer ∙ expression_self o.registers _);
-    kept = a.grown.kept;
-    formed = formed_less top a.grown.grows a.grown.formed;
-    above = omega arith;
-    few = omega arith;
-    known = tt;
-  }
-
--- ---- needs of the code
-pub begun : {bytes : List ℕ} {number at : ℕ} {f form : Form} → at < length bytes → number ≡ get_or bytes at 0 → f ≡ form_of (get_elem? rules number) → f ≡ form → Begun bytes number at form
-begun h e k t = record { there = h; is = e; kind = sym t ∙ k }

@@ -5,17 +5,13 @@ use mathlib.Core.List.{List, [], ◌∷◌}
 use Prim.Native.Nat.{ℕ, zero, suc, ◌+◌, ◌-◌, ◌≤◌, ◌<◌}
 use native.Mathlib.Omega.{arith}
 use native.Mathlib.Nat.{sub-zero}
-use lib.ListN.{length, get_or, take, get_elem?, length-map, get_or-map}
-use lib.Seq.{length-take-le, get_or-take}
+use lib.ListN.{length, get_or, get_elem?}
 use Rattle.model.specs.Policy.{Policy}
-use Rattle.model.specs.Package.{most_instructions}
 use Rattle.model.specs.Machine.{State, Step, start_of, next, returns, without_right, past_end, step}
 use Rattle.model.specs.Runner.{Run, stopped, run_from}
 use Rattle.model.specs.declared.Region.{Region}
 use Rattle.model.specs.declared.Instruction.{Instruction}
 use Rattle.model.specs.declared.Outcome.{Outcome}
-use Rattle.routine.specs.declared.instructions.Line.{Line}
-use Rattle.routine.specs.Code.{instructions_of}
 use Rattle.machine.specs.declared.Progress.{Progress}
 use Rattle.machine.specs.declared.Progress.TheVariants.{Next, Returned, WithoutRight}
 use Rattle.machine.specs.Step.{Ready, Under, Executed, state, step_of}
@@ -38,49 +34,41 @@ beyond (x ∷ xs) (suc i) h = beyond xs i (omega arith)
 -- ---- the run
 
 -- what the loop keeps: the whole run is the run from here on
-pub record Going (lines : List Line) (size : ℕ) (regions : List Region) (count : ℕ) (registers₀ memory₀ : List ℕ) (budget : ℕ) (registers memory : List ℕ) (counter steps : ℕ) : Type 0 where
-  pub whole : length lines ≡ most_instructions
-  pub runnable : Runnable lines size count registers₀
-  pub within : steps ≤ budget
+pub record Going (code : List Instruction) (regions : List Region) (registers₀ memory₀ : List ℕ) (budget : ℕ) (registers memory : List ℕ) (counter steps : ℕ) : Type 0 where
+  pub runnable : Runnable code registers₀
   pub as_many : length registers ≡ length registers₀
   pub as_long : length memory ≡ length memory₀
-  pub rest : (policy : Policy) → Under policy (length memory₀) (take count regions)
-      → run_from policy (instructions_of (take size lines)) budget 0 (start_of registers₀ memory₀) ≡ run_from policy (instructions_of (take size lines)) (budget - steps) steps (state counter registers memory)
+  pub rest : (policy : Policy) → Under policy (length memory₀) regions
+      → run_from policy code budget 0 (start_of registers₀ memory₀) ≡ run_from policy code (budget - steps) steps (state counter registers memory)
 
-module _ (lines : List Line) (size : ℕ) (regions : List Region) (count : ℕ) (registers₀ memory₀ : List ℕ) (budget : ℕ) where
-  abbrev code : List Instruction
-  code = instructions_of (take size lines)
-
+module _ (code : List Instruction) (regions : List Region) (registers₀ memory₀ : List ℕ) (budget : ℕ) where
   -- the policies that the run is under
   abbrev Here : Policy → Type 0
-  Here policy = Under policy (length memory₀) (take count regions)
+  Here policy = Under policy (length memory₀) regions
 
   -- the run that is promised
   abbrev Promised : Outcome → (registers memory : List ℕ) → Type 0
-  Promised = Ran code (take count regions) registers₀ memory₀ budget
+  Promised = Ran code regions registers₀ memory₀ budget
 
   promise : (r : Outcome) (registers memory : List ℕ)
       → ((p : Policy) → Here p → record { outcome = r; registers = registers; memory = memory } ≡ run_from p code budget 0 (start_of registers₀ memory₀))
       → Promised r registers memory
   promise r registers memory e = record { run = e; steps = λ p u. rw (e p u) (counted p code (start_of registers₀ memory₀) budget) }
 
-  pub begin : length lines ≡ most_instructions → Runnable lines size count registers₀ → Going lines size regions count registers₀ memory₀ budget registers₀ memory₀ 0 0
-  begin l r = record { whole = l; runnable = r; within = omega arith; as_many = refl; as_long = refl; rest = λ p u. rw sub-zero }
+  pub begin : Runnable code registers₀ → Going code regions registers₀ memory₀ budget registers₀ memory₀ 0 0
+  begin r = record { runnable = r; as_many = refl; as_long = refl; rest = λ p u. rw sub-zero }
 
-  module _ (registers memory : List ℕ) (counter steps : ℕ) (g : Going lines size regions count registers₀ memory₀ budget registers memory counter steps) where
+  module _ (registers memory : List ℕ) (counter steps : ℕ) (g : Going code regions registers₀ memory₀ budget registers memory counter steps) where
     abbrev here : State
     here = state counter registers memory
 
-    code_length : length code ≡ size
-    code_length = length-map (take size lines) (λ (l : Line). l.instruction) ∙ length-take-le size lines (omega (arith, g.whole, g.runnable.short))
-
-    pub spent : steps ≡ budget → Promised (record { number = 20; place = counter; steps = steps }) registers memory
+    pub spent : steps ≡ budget → Promised (record { number = 20; place = counter; steps = budget }) registers memory
     unfolding run_from
     spent e =
         let z : budget - steps ≡ 0 = omega arith in
-        promise _ _ _ (λ p u. rw (g.rest p u, z))
+        promise _ _ _ (λ p u. rw (g.rest p u, z, e))
 
-    module _ (left : steps ≡ budget → ⊥) where
+    module _ (left : steps < budget) where
       -- what follows a step
       abbrev after : Policy → Step → Run
       after p x =
@@ -94,45 +82,37 @@ module _ (lines : List Line) (size : ℕ) (regions : List Region) (count : ℕ) 
       goes_on : (p : Policy) → Here p → (x : Step) → step p code here ≡ x → run_from p code budget 0 (start_of registers₀ memory₀) ≡ after p x
       unfolding run_from
       goes_on p u x e =
-          let s : budget - steps ≡ suc (budget - (steps + 1)) = omega (arith, g.within) in
+          let s : budget - steps ≡ suc (budget - (steps + 1)) = omega arith in
           g.rest p u ∙ rw (s, e, run_from)
 
-      pub past : size ≤ counter → Promised (record { number = 22; place = counter; steps = steps }) registers memory
+      pub past : length code ≤ counter → Promised (record { number = 22; place = counter; steps = steps }) registers memory
       unfolding step
-      past h = promise _ _ _ (λ p u. sym (goes_on p u past_end (rw (beyond code counter (rw code_length h), step))))
+      past h = promise _ _ _ (λ p u. sym (goes_on p u past_end (rw (beyond code counter h, step))))
 
       -- the instruction is there, at the counter
-      module _ (h : counter < size) (other : Line) where
+      module _ (h : counter < length code) (other : Instruction) where
         abbrev instruction : Instruction
-        instruction = (get_or lines counter other).instruction
+        instruction = get_or code counter other
 
-        fetched : get_elem? code counter ≡ some instruction
-        fetched =
-            there code counter other.instruction (rw code_length h)
-            ∙ rw (get_or-map (λ (l : Line). l.instruction) (take size lines) counter other, get_or-take size lines counter other h)
-
-        pub ready : Ready counter count registers instruction
+        pub ready : Ready counter registers instruction
         ready = record {
           low = omega (arith, g.runnable.short);
-          few = g.runnable.few;
           sixteen = g.as_many ∙ g.runnable.sixteen;
-          size = size;
-          formed = g.runnable.formed.at counter other (omega (arith, g.whole, g.runnable.short));
+          size = length code;
+          formed = g.runnable.formed counter other h;
         }
 
-        module _ (r : Progress) (registers' memory' : List ℕ) (x : Executed (take count regions) instruction here r registers' memory') where
+        module _ (r : Progress) (registers' memory' : List ℕ) (x : Executed regions instruction here r registers' memory') where
           stepped : (q : Progress) → r ≡ q → (p : Policy) → Here p → run_from p code budget 0 (start_of registers₀ memory₀) ≡ after p (step_of q registers' memory')
           unfolding step
           stepped q e p u =
-              let v : Under p (length memory) (take count regions) = record { words = u.words ∙ sym g.as_long; granted = u.granted } in
-              goes_on p u (step_of q registers' memory') (rw (fetched, ← e, step) (sym (x.step p v)))
+              let v : Under p (length memory) regions = record { words = u.words ∙ sym g.as_long; granted = u.granted } in
+              goes_on p u (step_of q registers' memory') (rw (there code counter other h, ← e, step) (sym (x.step p v)))
 
           pub further : (to : ℕ) → r ≡ Next to → length registers' ≡ length registers → length memory' ≡ length memory
-              → Going lines size regions count registers₀ memory₀ budget registers' memory' to (steps + 1)
+              → Going code regions registers₀ memory₀ budget registers' memory' to (steps + 1)
           further to e lr lm = record {
-            whole = g.whole;
             runnable = g.runnable;
-            within = omega (arith, g.within);
             as_many = lr ∙ g.as_many;
             as_long = lm ∙ g.as_long;
             rest = stepped (Next to) e;

@@ -1,6 +1,6 @@
 -- What the run of decoded code leaves. Assumes nothing.
-use Rattle.std.specs.Prelude.{◌≡◌, List, ℕ, ◌≤◌, length}
-use Rattle.model.specs.Policy.{Policy, most_regions}
+use Rattle.std.specs.Prelude.{◌≡◌, List, ℕ, ◌≤◌, length, All}
+use Rattle.model.specs.Policy.{Policy}
 use Rattle.model.specs.Expression.{register_count}
 use Rattle.model.specs.Package.{most_instructions}
 use Rattle.model.specs.Machine.{start_of}
@@ -8,17 +8,15 @@ use Rattle.model.specs.Runner.{run_from}
 use Rattle.model.specs.declared.Region.{Region}
 use Rattle.model.specs.declared.Instruction.{Instruction}
 use Rattle.model.specs.declared.Outcome.{Outcome}
-use Rattle.routine.specs.declared.instructions.Line.{Line}
-use Rattle.routine.specs.Code.{AllFormed}
+use Rattle.decoding.specs.Decoding.{Formed}
 use Rattle.machine.specs.Step.{Under}
 use Rattle.runs.specs.Counted.{Counted}
 
--- what a run asks of its arguments: the code is in the first `size` lines
-pub record Runnable (lines : List Line) (size count : ℕ) (registers : List ℕ) : Type 0 where
-  pub short : size ≤ most_instructions
-  pub few : count ≤ most_regions
+-- what a run asks of its arguments
+pub record Runnable (code : List Instruction) (registers : List ℕ) : Type 0 where
+  pub short : length code ≤ most_instructions
   pub sixteen : length registers ≡ register_count
-  pub formed : AllFormed size lines
+  pub formed : All (Formed (length code)) code
 
 -- the outcome, and the registers and memory left, under every policy of that memory size with these regions
 pub record Ran (code : List Instruction) (regions : List Region) (registers memory : List ℕ) (budget : ℕ) (r : Outcome) (registers' memory' : List ℕ) : Type 0 where

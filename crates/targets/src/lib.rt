@@ -3,69 +3,42 @@
 
 pub mod search;
 
-ghost use Rattle.std.specs.Prelude.{◌≤◌, ◌<◌, length, take};
-ghost use Rattle.header.specs.Headers.{Fits};
+ghost use Rattle.std.specs.Prelude.{◌<◌};
 ghost use Rattle.targets.specs.Targets.{TargetListed, TargetMet, TargetsMet};
 
-use decoding::Target;
-use model::{Header, Instruction, Refusal};
+use annotations::reading::Annotated;
+use header::package::Package;
+use model::{Instruction, Refusal};
 use routine::instructions;
-use routine::instructions::InstructionAnswer;
-use search::Found;
 
-#[derive(Clone, Copy)]
-pub enum TargetsAnswer {
-    Passed,
-    Refused(Refusal),
-}
-
-// The instruction's jump, if it is one, goes to one of the first `count` indexes.
-fn target_listed(indexes: &[u32], count: usize, instruction: Instruction) -> bool
-    requires { count ≤ length indexes.now }
-    ensures { TargetListed (take count indexes.now) instruction result }
+// The instruction's jump, if it is one, goes to an instruction that has an annotation.
+fn target_listed(annotations: &[Annotated], instruction: Instruction) -> bool
+    ensures { TargetListed annotations.now instruction result }
 {
-    let target = decoding::target_of(instruction);
-    let Target::At(i) = target else {
-        return true;
-    };
-    let found = search::position(indexes, count, i);
-    match found {
-        Found::At(_) => true,
-        Found::Nothing => false,
+    match decoding::target_of(instruction) {
+        Some(target) => search::position(annotations, target as usize).is_some(),
+        None => true,
     }
 }
 
 // Check 12 of the instruction at an index; its code has been checked.
-fn check_target(bytes: &[u8], header: Header, indexes: &[u32], index: usize) -> TargetsAnswer
-    requires fits { Fits bytes.now header }
-    requires annotations_in_bounds { (header.annotations ≤ length indexes.now) × (index < header.instructions) }
-    ensures { TargetMet bytes.now header indexes.now index result }
+fn check_target(routine: &Package, annotations: &[Annotated], index: usize) -> Result<(), Refusal>
+    requires { index < routine.now.header.instructions }
+    ensures { TargetMet routine.now.bytes.now routine.now.header annotations.now index result }
 {
-    let answer = instructions::instruction(bytes, header, index);
-    match answer {
-        InstructionAnswer::Passed(instruction) => {
-            if target_listed(indexes, header.annotations, instruction) {
-                return TargetsAnswer::Passed;
-            }
-            TargetsAnswer::Refused(Refusal::Unannotated(index))
-        }
-        InstructionAnswer::Refused(refusal) => TargetsAnswer::Refused(refusal),
+    let instruction = instructions::instruction(routine, index)?;
+    if !target_listed(annotations, instruction) {
+        return Err(Refusal::Unannotated(index));
     }
+    Ok(())
 }
 
-// Check 12 of every instruction in turn; the code has been checked, and the annotations' indexes are listed.
-pub fn check_targets(bytes: &[u8], header: Header, indexes: &[u32]) -> TargetsAnswer
-    requires fits { Fits bytes.now header }
-    requires annotations_in_bounds { header.annotations ≤ length indexes.now }
-    ensures { TargetsMet bytes.now header indexes.now result }
+// Check 12 of every instruction in turn; the code has been checked, and the annotations have been read.
+pub fn check_targets(routine: &Package, annotations: &[Annotated]) -> Result<(), Refusal>
+    ensures { TargetsMet routine.now.bytes.now routine.now.header annotations.now result }
 {
-    let mut index = 0;
-    while index < header.instructions {
-        let answer = check_target(bytes, header, indexes, index);
-        if let TargetsAnswer::Refused(_) = answer {
-            return answer;
-        }
-        index += 1;
+    for index in 0..routine.header.instructions {
+        check_target(routine, annotations, index)?;
     }
-    TargetsAnswer::Passed
+    Ok(())
 }

@@ -1,27 +1,21 @@
 // The search for the annotation at an index.
-ghost use Rattle.std.specs.Prelude.{◌≡◌, ◌≤◌, length, take};
-ghost use Rattle.targets.specs.Search.{position_from};
+ghost use Rattle.std.specs.Prelude.{◌≡◌, ◌==◌};
+ghost use Rattle.std.specs.List.{position_from};
 
-#[derive(Clone, Copy)]
-pub enum Found {
-    At(usize),
-    Nothing,
-}
+use annotations::reading::Annotated;
 
-// The first of the first `count` places at which `index` stands.
-pub fn position(indexes: &[u32], count: usize, index: u32) -> Found
-    requires { count ≤ length indexes.now }
-    ensures { result ≡ position_from (take count indexes.now) index 0 }
+// The first place in the list of an annotation of the instruction at `index`.
+pub fn position(annotations: &[Annotated], index: usize) -> Option<usize>
+    ensures { result ≡ position_from (λ a. a.index == index) 0 annotations.now }
 {
     let mut at = 0;
-    let found = loop {
-        if count <= at {
-            break Found::Nothing;
+    loop {
+        if annotations.len() <= at {
+            break None;
         }
-        if indexes[at] == index {
-            break Found::At(at);
+        if annotations[at].index == index {
+            break Some(at);
         }
         at += 1;
-    };
-    found
+    }
 }

@@ -8,13 +8,17 @@ use native.Mathlib.Decide.{dec_lt}
 use lib.Dec.{leb, ltb}
 use lib.ListN.{get_or, get_elem?}
 use borrow.Author.Tests.{ltb-true}
-use Rattle.model.specs.Result.{Result, stop, value, ◌>>=◌, check, found}
+use Rattle.model.specs.Result.{Result, Err, Ok, ◌>>=◌, check, found}
 use Rattle.model.specs.Term.{Term, constant, variable, sum, difference, mask, shift, substitute}
-use Rattle.model.specs.Field.{ReadError, fault, byte_at, half_at, word_at}
+use Rattle.model.specs.Field.{byte_at, half_at, word_at}
+use Rattle.model.specs.declared.ReadError.{ReadError}
+use Rattle.model.specs.declared.ReadError.TheVariants.{Fault}
 use Rattle.model.specs.Expression.{two_expressions, forms, most_count, Nodes, node_of, nodes_at, expression_at, register_count, most_nodes}
 use Rattle.model.specs.Goals.{register_variables}
 use Rattle.workspace.specs.Layout.{table_base, Same}
 use Rattle.nodes.specs.Table.{operation_of, place}
+use Rattle.nodes.specs.declared.Operation.{Operation}
+use Rattle.nodes.specs.declared.Operation.TheVariants.{Sum, Difference, Mask}
 use Rattle.leaf_reader.specs.Leaves.{over, mapped, nodes_over, variable_term}
 use Rattle.leaf_reader.proofs.Leaves.{variable_register, variable_new}
 use Rattle.term_reader.specs.Reader.{expression_over, RegisterTerms}
@@ -43,45 +47,45 @@ over_registers terms (shift count s) = ap (shift count) (over_registers terms s)
 
 -- ---- what is read has variables below the limit, so terms that agree there give the same
 module _ {E B C : Type 0} (f g : B → C) where
-  pub bind_agree : {A : Type 0} (x : Result E A) (k : A → Result E B) → ((a : A) → mapped f (k a) ≡ mapped g (k a)) → mapped f (x >>= k) ≡ mapped g (x >>= k)
+  pub bind_agree : {A : Type 0} (x : Result A E) (k : A → Result B E) → ((a : A) → mapped f (k a) ≡ mapped g (k a)) → mapped f (x >>= k) ≡ mapped g (x >>= k)
   unfolding ◌>>=◌ mapped
-  bind_agree (stop e) k h = refl
-  bind_agree (value a) k h = h a
+  bind_agree (Err e) k h = refl
+  bind_agree (Ok a) k h = h a
 
-  check_agree : (b : Bool) (e : E) (k : Unit {0} → Result E B) → (b ≡ true → mapped f (k tt) ≡ mapped g (k tt)) → mapped f (check b e >>= k) ≡ mapped g (check b e >>= k)
+  check_agree : (b : Bool) (e : E) (k : Unit {0} → Result B E) → (b ≡ true → mapped f (k tt) ≡ mapped g (k tt)) → mapped f (check b e >>= k) ≡ mapped g (check b e >>= k)
   unfolding ◌>>=◌ mapped check
   check_agree true e k h = h refl
   check_agree false e k h = refl
 
 module _ (bytes : List ℕ) (end limit : ℕ) (σ τ : ℕ → Term) (agree : (v : ℕ) → v < limit → σ v ≡ τ v) where
   module _ (operand : (left p : ℕ) → Nodes) (same : (l q : ℕ) → nodes_over σ (operand l q) ≡ nodes_over τ (operand l q)) (left p : ℕ) where
-    pair_agree : (tag : ℕ) → nodes_over σ (node_of bytes end limit operand (two_expressions (operation_of tag)) left p) ≡ nodes_over τ (node_of bytes end limit operand (two_expressions (operation_of tag)) left p)
+    pair_agree : (operation : Operation) → nodes_over σ (node_of bytes end limit operand (two_expressions (operation_of operation)) left p) ≡ nodes_over τ (node_of bytes end limit operand (two_expressions (operation_of operation)) left p)
     unfolding node_of
-    pair_agree tag =
-        pair_over σ (operation_of tag) (operation_keeps tag σ) (operand (left - 1) (p + 1)) operand
-        ∙ ap₂ (λ x y. pair_of (operation_of tag) x y) (same (left - 1) (p + 1)) (fun_ext (λ l. fun_ext (λ q. same l q)))
-        ∙ sym (pair_over τ (operation_of tag) (operation_keeps tag τ) (operand (left - 1) (p + 1)) operand)
+    pair_agree operation =
+        pair_over σ (operation_of operation) (operation_keeps operation σ) (operand (left - 1) (p + 1)) operand
+        ∙ ap₂ (λ x y. pair_of (operation_of operation) x y) (same (left - 1) (p + 1)) (fun_ext (λ l. fun_ext (λ q. same l q)))
+        ∙ sym (pair_over τ (operation_of operation) (operation_keeps operation τ) (operand (left - 1) (p + 1)) operand)
 
     shift_agree : (count : ℕ) → nodes_over σ (applied (shift count) (operand (left - 1) (p + 2))) ≡ nodes_over τ (applied (shift count) (operand (left - 1) (p + 2)))
     shift_agree count =
         shift_over σ count (operand (left - 1) (p + 2)) ∙ ap (applied (shift count)) (same (left - 1) (p + 2)) ∙ sym (shift_over τ count (operand (left - 1) (p + 2)))
 
-    node_agree : (tag : ℕ) → nodes_over σ (found (get_elem? forms tag) (fault p) >>= (λ form. node_of bytes end limit operand form left p)) ≡ nodes_over τ (found (get_elem? forms tag) (fault p) >>= (λ form. node_of bytes end limit operand form left p))
+    node_agree : (tag : ℕ) → nodes_over σ (found (get_elem? forms tag) (Fault p) >>= (λ form. node_of bytes end limit operand form left p)) ≡ nodes_over τ (found (get_elem? forms tag) (Fault p) >>= (λ form. node_of bytes end limit operand form left p))
     unfolding node_of ◌>>=◌ found mapped over
     node_agree zero = bind_agree _ _ (word_at bytes end (p + 1)) _ (λ c. refl)
-    node_agree (suc zero) = bind_agree _ _ (half_at bytes end (p + 1)) _ (λ v. check_agree _ _ (ltb v limit) (fault (p + 1)) _ (λ e. ap (λ t. value (t, p + 3, left - 1)) (agree v (ltb-true v limit e))))
-    node_agree (suc (suc zero)) = pair_agree 2
-    node_agree (suc (suc (suc zero))) = pair_agree 3
-    node_agree (suc (suc (suc (suc zero)))) = pair_agree 4
+    node_agree (suc zero) = bind_agree _ _ (half_at bytes end (p + 1)) _ (λ v. check_agree _ _ (ltb v limit) (Fault (p + 1)) _ (λ e. ap (λ t. Ok (t, p + 3, left - 1)) (agree v (ltb-true v limit e))))
+    node_agree (suc (suc zero)) = pair_agree Sum
+    node_agree (suc (suc (suc zero))) = pair_agree Difference
+    node_agree (suc (suc (suc (suc zero)))) = pair_agree Mask
     node_agree (suc (suc (suc (suc (suc zero))))) =
-        bind_agree _ _ (byte_at bytes end (p + 1)) _ (λ count. check_agree _ _ (leb count most_count) (fault (p + 1)) _ (λ e. shift_agree count))
+        bind_agree _ _ (byte_at bytes end (p + 1)) _ (λ count. check_agree _ _ (leb count most_count) (Fault (p + 1)) _ (λ e. shift_agree count))
     node_agree (suc (suc (suc (suc (suc (suc tag)))))) = refl
 
   nodes_agree : (depth left p : ℕ) → nodes_over σ (nodes_at bytes end limit depth left p) ≡ nodes_over τ (nodes_at bytes end limit depth left p)
   unfolding nodes_at ◌>>=◌ mapped
   nodes_agree zero left p = bind_agree _ _ (byte_at bytes end p) _ (λ tag. refl)
   nodes_agree (suc depth) left p =
-      bind_agree _ _ (byte_at bytes end p) _ (λ tag. bind_agree _ _ (check (ltb 0 left) (fault p)) _ (λ u. node_agree (λ l q. nodes_at bytes end limit depth l q) (λ l q. nodes_agree depth l q) left p tag))
+      bind_agree _ _ (byte_at bytes end p) _ (λ tag. bind_agree _ _ (check (ltb 0 left) (Fault p)) _ (λ u. node_agree (λ l q. nodes_at bytes end limit depth l q) (λ l q. nodes_agree depth l q) left p tag))
 
   pub expression_agree : (p : ℕ) → expression_over σ (expression_at bytes end limit p) ≡ expression_over τ (expression_at bytes end limit p)
   unfolding expression_at
@@ -119,7 +123,7 @@ module _ {ws registers : List ℕ} (h : RegisterTerms ws registers register_vari
       at v (yes l) = sym (variable_register ws registers v l) ∙ h.is v l ∙ register_variable v l
       at v (no l) = sym (variable_new ws registers v (omega arith))
 
-  pub expression_self : (x : Result ReadError (Term × ℕ)) → expression_over (variable_term ws registers) x ≡ x
+  pub expression_self : (x : Result (Term × ℕ) ReadError) → expression_over (variable_term ws registers) x ≡ x
   unfolding mapped
-  expression_self (stop e) = refl
-  expression_self (value z) = rw variables_self (ap (λ t. value (t, z.1)) (over_variable z.0))
+  expression_self (Err e) = refl
+  expression_self (Ok z) = rw variables_self (ap (λ t. Ok (t, z.1)) (over_variable z.0))

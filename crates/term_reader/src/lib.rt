@@ -1,158 +1,123 @@
 // The reader that builds expressions in the term table. The variable of a register is the node registers[v].
 #![tactic(auto)]
 
-ghost use Rattle.std.specs.Prelude.{◌≡◌, ◌≤◌, ◌<◌, length, get_or};
-ghost use Rattle.model.specs.Expression.{most_nodes};
-ghost use Rattle.workspace.specs.Layout.{most_variables};
-ghost use Rattle.leaf_reader.specs.Leaves.{Ready};
-ghost use Rattle.term_reader.specs.Reader.{NodesRead, ExpressionRead};
+ghost use Rattle.std.specs.Prelude.{◌≡◌, ℕ, ◌≤◌, ◌<◌, get_or};
+ghost use Rattle.std.proofs.Math.ListN.{get_elem?};
+ghost use Rattle.std.proofs.Math.Option.{some};
+ghost use Rattle.model.specs.Term.{shift};
+ghost use Rattle.model.specs.Expression.{forms, two_expressions, count_and_expression, most_nodes};
+ghost use Rattle.nodes.specs.Table.{operation_of};
+ghost use Rattle.leaf_reader.specs.Leaves.{Ready, Grown, nodes_answer};
+ghost use Rattle.term_reader.specs.Reader.{nodes_in, expression_in, expression_answer};
 
-use leaf_reader::Parse;
-use limits::{MOST_COUNT, MOST_NODES, REGISTERS};
+use leaf_reader::{Parsed, Source};
+use limits::{MOST_COUNT, MOST_NODES};
+use model::ReadError;
+use nodes::Operation;
 
-// The most that a count byte may say.
-const COUNT: u8 = MOST_COUNT as u8;
-
-// The sum, for tag 2, the difference, for tag 3, or the mask, for tag 4, at `at`: two expressions after the tag.
+// The sum, the difference or the mask at `at`: two expressions after the tag.
 #[cycle(reading)]
 fn read_pair(
-    bytes: &[u8],
+    source: &Source,
     ws: &mut [u32],
-    end: usize,
-    limit: usize,
-    registers: [u32; REGISTERS],
     at: usize,
     left: u32,
     top: usize,
-    tag: u8,
-) -> Parse
-    requires end_in_bounds { (end ≤ length bytes.now) × (limit ≤ most_variables) }
-    requires ready { Ready ws.old registers top left }
-    requires at_lt_end { (at < end) × (0 < left) }
-    requires tag_value { (tag ≡ get_or bytes.now at 0) × (1 < tag) × (tag < 5) }
-    ensures { NodesRead ws.old ws.new registers bytes.now end limit at left top result }
+    operation: Operation,
+) -> Result<Parsed, ReadError>
+    requires ready { Ready ws.old source.now.registers top left }
+    requires at_in_bounds { at < source.now.end }
+    requires node_left { 0 < left }
+    requires pair_stands { get_elem? forms (get_or source.now.bytes.now at 0) ≡ some (two_expressions (operation_of operation)) }
+    ensures answer { (depth : ℕ) → left ≤ depth → nodes_answer ws.new result ≡ nodes_in ws.old source.now depth left at }
+    ensures grown { Grown ws.old ws.new source.now.end top left result }
 {
-    let start = at + 1;
-    match read(bytes, ws, end, limit, registers, start, left - 1, top) {
-        Parse::Missing => Parse::Missing,
-        Parse::Fault(p) => Parse::Fault(p),
-        Parse::Term {
-            number: a,
-            next: middle,
-            left: fewer,
-            top: above,
-        } => match read(bytes, ws, end, limit, registers, middle, fewer, above) {
-            Parse::Missing => Parse::Missing,
-            Parse::Fault(p) => Parse::Fault(p),
-            Parse::Term {
-                number: b,
-                next: after,
-                left: last,
-                top: high,
-            } => {
-                terms::put_pair(ws, high, tag as u32, fields::wide(a), fields::wide(b));
-                Parse::Term {
-                    number: high as u32,
-                    next: after,
-                    left: last,
-                    top: high + 1,
-                }
-            }
-        },
-    }
+    let first = read(source, ws, at + 1, left - 1, top)?;
+    let second = read(source, ws, first.next, first.left, first.top)?;
+    let node = second.top;
+    terms::put_pair(ws, node, operation, first.node, second.node);
+    Ok(Parsed {
+        node,
+        next: second.next,
+        left: second.left,
+        top: node + 1,
+    })
 }
 
-// The shift, tag 5, at `at`: a count and an expression after the tag.
+// The shift at `at`: a count and an expression after the tag.
 #[cycle(reading)]
 fn read_shift(
-    bytes: &[u8],
+    source: &Source,
     ws: &mut [u32],
-    end: usize,
-    limit: usize,
-    registers: [u32; REGISTERS],
     at: usize,
     left: u32,
     top: usize,
-) -> Parse
-    requires end_in_bounds { (end ≤ length bytes.now) × (limit ≤ most_variables) }
-    requires ready { Ready ws.old registers top left }
-    requires at_lt_end { (at < end) × (0 < left) }
-    requires at_value { get_or bytes.now at 0 ≡ 5 }
-    ensures { NodesRead ws.old ws.new registers bytes.now end limit at left top result }
+) -> Result<Parsed, ReadError>
+    requires ready { Ready ws.old source.now.registers top left }
+    requires at_in_bounds { at < source.now.end }
+    requires node_left { 0 < left }
+    requires shift_stands { get_elem? forms (get_or source.now.bytes.now at 0) ≡ some (count_and_expression shift) }
+    ensures answer { (depth : ℕ) → left ≤ depth → nodes_answer ws.new result ≡ nodes_in ws.old source.now depth left at }
+    ensures grown { Grown ws.old ws.new source.now.end top left result }
 {
-    if end - at < 2 {
-        return Parse::Missing;
+    if source.end - at < 2 {
+        return Err(ReadError::Missing);
     }
-    let count = bytes[at + 1];
-    if COUNT < count {
-        return Parse::Fault(at + 1);
+    let count = u32::from(source.bytes[at + 1]);
+    if MOST_COUNT < count {
+        return Err(ReadError::Fault(at + 1));
     }
-    let start = at + 2;
-    match read(bytes, ws, end, limit, registers, start, left - 1, top) {
-        Parse::Missing => Parse::Missing,
-        Parse::Fault(p) => Parse::Fault(p),
-        Parse::Term {
-            number: a,
-            next: after,
-            left: last,
-            top: high,
-        } => {
-            terms::put_shift(ws, high, count as u32, fields::wide(a));
-            Parse::Term {
-                number: high as u32,
-                next: after,
-                left: last,
-                top: high + 1,
-            }
-        }
-    }
+    let operand = read(source, ws, at + 2, left - 1, top)?;
+    let node = operand.top;
+    terms::put_shift(ws, node, count, operand.node);
+    Ok(Parsed {
+        node,
+        next: operand.next,
+        left: operand.left,
+        top: node + 1,
+    })
 }
 
 // The expression at `at`, of at most `left` nodes, its variables below the limit.
 #[cycle(reading)]
 fn read(
-    bytes: &[u8],
+    source: &Source,
     ws: &mut [u32],
-    end: usize,
-    limit: usize,
-    registers: [u32; REGISTERS],
     at: usize,
     left: u32,
     top: usize,
-) -> Parse
-    requires end_in_bounds { (end ≤ length bytes.now) × (limit ≤ most_variables) }
-    requires ready { Ready ws.old registers top left }
-    ensures { NodesRead ws.old ws.new registers bytes.now end limit at left top result }
+) -> Result<Parsed, ReadError>
+    requires { Ready ws.old source.now.registers top left }
+    ensures answer { (depth : ℕ) → left ≤ depth → nodes_answer ws.new result ≡ nodes_in ws.old source.now depth left at }
+    ensures grown { Grown ws.old ws.new source.now.end top left result }
 {
-    if end <= at {
-        return Parse::Missing;
+    if source.end <= at {
+        return Err(ReadError::Missing);
     }
     if left == 0 {
-        return Parse::Fault(at);
+        return Err(ReadError::Fault(at));
     }
-    let tag = bytes[at];
-    match tag {
-        0 => leaf_reader::read_constant(bytes, ws, end, limit, registers, at, left, top),
-        1 => leaf_reader::read_variable(bytes, ws, end, limit, registers, at, left, top),
-        2..=4 => read_pair(bytes, ws, end, limit, registers, at, left, top, tag),
-        5 => read_shift(bytes, ws, end, limit, registers, at, left, top),
-        _ => Parse::Fault(at),
+    match source.bytes[at] {
+        0 => leaf_reader::read_constant(source.bytes, source.end, ws, at, left, top),
+        1 => leaf_reader::read_variable(source, ws, at, left, top),
+        2 => read_pair(source, ws, at, left, top, Operation::Sum),
+        3 => read_pair(source, ws, at, left, top, Operation::Difference),
+        4 => read_pair(source, ws, at, left, top, Operation::Mask),
+        5 => read_shift(source, ws, at, left, top),
+        _ => Err(ReadError::Fault(at)),
     }
 }
 
 // The expression at `at`, of at most 31 nodes.
 pub fn expression(
-    bytes: &[u8],
+    source: &Source,
     ws: &mut [u32],
-    end: usize,
-    limit: usize,
-    registers: [u32; REGISTERS],
     at: usize,
     top: usize,
-) -> Parse
-    requires end_in_bounds { (end ≤ length bytes.now) × (limit ≤ most_variables) }
-    requires ready { Ready ws.old registers top most_nodes }
-    ensures { ExpressionRead ws.old ws.new registers bytes.now end limit at top result }
+) -> Result<Parsed, ReadError>
+    requires { Ready ws.old source.now.registers top most_nodes }
+    ensures answer { expression_answer ws.new result ≡ expression_in ws.old source.now at }
+    ensures grown { Grown ws.old ws.new source.now.end top most_nodes result }
 {
-    read(bytes, ws, end, limit, registers, at, MOST_NODES, top)
+    read(source, ws, at, MOST_NODES, top)
 }

@@ -1,71 +1,39 @@
 -- Laws of the walks along a term, one for each way out of a function. Assumes nothing.
 use mathlib.Core.Path.{◌≡◌, refl, sym, ap, ◌∙◌}
 use mathlib.Core.Logic.{◌≢◌}
-use mathlib.Core.Bool.{Bool, true, false, ◌&&◌, and-true, and-false}
+use mathlib.Core.Bool.{Bool, true, false, ◌&&◌}
 use mathlib.Core.List.{List}
-use Prim.Native.Nat.{ℕ, zero, suc, ◌%◌, ◌<◌}
+use Prim.Native.Nat.{ℕ, zero, suc, ◌%◌, ◌^◌, ◌<◌}
 use native.Mathlib.Omega.{arith}
-use native.Mathlib.Decide.{dec_lt}
 use lib.Dec.{eqb}
+use borrow.Author.Tests.{eq-eqb, eqb-true, ne_eqb}
 use Rattle.model.specs.Word.{shift_w}
-use Rattle.model.specs.Term.{Term, eval, closed, eq_term}
-use Rattle.model.proofs.Terms.{same_term, term_same as same-refl-term, and_left}
-use Rattle.nodes.specs.Table.{low, high, parts_at, value_at, marks_at, valued_at, node_of_tag, view_of, build, term_at, plain, pair_value, facts_of, Shaped, Formed}
-use Rattle.nodes.proofs.Table.{at_pair, at_shift, pair_built, shift_tag, marks_here, built_here, first_part, second_part, same_terms}
-use Rattle.nodes.proofs.Facts.{valued_at_lem, value_is_kept, pair_eval}
-use Rattle.term_walks.specs.Closed.{closed_value, leaf_number}
-use Rattle.term_walks.specs.declared.Closed.TheVariants.{Value, Open}
-
--- ---- the number of a leaf
-pub leaf_constant : {tag v : ℕ} (p w : ℕ) → tag ≡ 0 → v ≡ w → v ≡ leaf_number tag p w
-leaf_constant p w e h = rw (e, h)
-
-pub leaf_variable : (tag : ℕ) {v : ℕ} (p w : ℕ) → tag ≢ 0 → v ≡ p → v ≡ leaf_number tag p w
-leaf_variable zero p w n h = absurd (n refl)
-leaf_variable (suc tag) p w n h = h
-
--- ---- closed terms: b is what is known of one
-module _ (t : Term) {b : Bool} (d : b ≡ closed t) where
-  pub closed_value_lem : {v : ℕ} → b ≡ true → v ≡ eval (λ v. 0) t → Value v ≡ closed_value t
-  unfolding closed_value
-  closed_value_lem h l = let c : closed t ≡ true = sym d ∙ h in rw (c, l)
-
-  pub open_value : b ≡ false → Open ≡ closed_value t
-  unfolding closed_value
-  open_value h = let c : closed t ≡ false = sym d ∙ h in rw c
-
-pub held_value : {ws : List ℕ} {i v : ℕ} {b : Bool} → Formed ws (suc i) → b ≡ valued_at ws i → b ≡ true → v ≡ value_at ws i → Value v ≡ closed_value (term_at ws i)
-held_value {ws} {i} f d h e = closed_value_lem (term_at ws i) (sym (and_left (closed (term_at ws i)) (plain (term_at ws i)) (sym (valued_at_lem (marks_here f.shaped)) ∙ sym d ∙ h))) refl (e ∙ value_is_kept f (sym d ∙ h))
+use Rattle.model.specs.Term.{Term, eval, eq_term}
+use Rattle.model.proofs.Terms.{same_term, term_same as same-refl-term}
+use Rattle.nodes.specs.declared.Node.{Node}
+use Rattle.nodes.specs.declared.Node.TheVariants.{Constant, Variable, Pair, Shift}
+use Rattle.nodes.specs.declared.Operation.{Operation}
+use Rattle.nodes.specs.declared.Operation.TheVariants.{Sum, Difference, Mask}
+use Rattle.nodes.specs.Table.{low, high, parts_at, value_at, marks_at, node_of_tag, view_of, build, operation_of, term_at, pair_value, facts_of, InOrder, Shaped, Formed}
+use Rattle.nodes.proofs.Table.{marks_here, node_order, node_built, same_terms}
+use Rattle.nodes.proofs.Facts.{pair_eval}
 
 -- ---- the value of a term by those of its parts
 module _ {ws : List ℕ} {i : ℕ} (f : Formed ws (suc i)) where
-  abbrev tag_here : ℕ
-  tag_here = marks_at ws i % 8
+  pub reduced_constant : {c : ℕ} → Constant c ≡ view_of ws i → c < 2 ^ 32 → c ≡ eval (λ v. 0) (term_at ws i)
+  unfolding eval
+  reduced_constant e h = rw (node_built f.shaped e) (omega arith)
 
-  term_here : term_at ws i ≡ build (term_at ws) (node_of_tag tag_here (parts_at ws i) (value_at ws i))
-  unfolding view_of
-  term_here = built_here f.shaped
+  pub reduced_variable : {v : ℕ} → Variable v ≡ view_of ws i → 0 ≡ eval (λ v. 0) (term_at ws i)
+  unfolding eval
+  reduced_variable e = rw (node_built f.shaped e)
 
-  -- a variable has the value 0, and a constant is kept
-  leaf_eval : (t p v : ℕ) → t < 2 → term_at ws i ≡ build (term_at ws) (node_of_tag t p v) → valued_at ws i ≡ false → 0 ≡ eval (λ v. 0) (term_at ws i)
-  unfolding eval closed plain
-  leaf_eval zero p v h e o = let c : true ≡ false = sym (rw e at (valued_at_lem (marks_here f.shaped))) ∙ o in cc
-  leaf_eval (suc zero) p v h e o = rw e
-  leaf_eval (suc (suc t)) p v h e o = absurd (omega arith)
+  pub reduced_pair : {o : Operation} {l r a b x : ℕ} → Pair o l r ≡ view_of ws i → a ≡ eval (λ v. 0) (term_at ws l) → b ≡ eval (λ v. 0) (term_at ws r) → x ≡ pair_value o a b → x ≡ eval (λ v. 0) (term_at ws i)
+  reduced_pair {o} {l} {r} e p q d = d ∙ rw (p, q, node_built f.shaped e) (sym (pair_eval o (term_at ws l) (term_at ws r)))
 
-  pub reduced_leaf : {tag : ℕ} → tag ≡ tag_here → tag < 2 → valued_at ws i ≡ false → 0 ≡ eval (λ v. 0) (term_at ws i)
-  reduced_leaf q h o = leaf_eval tag_here (parts_at ws i) (value_at ws i) (omega arith) term_here o
-
-  module _ {tag a x y : ℕ} (q : tag ≡ tag_here) (e : x ≡ low (parts_at ws i)) (g : y ≡ high (parts_at ws i)) (h : a ≡ eval (λ v. 0) (term_at ws x)) where
-    pub reduced_pair : {b r : ℕ} → 1 < tag → tag < 5 → b ≡ eval (λ v. 0) (term_at ws y) → r ≡ pair_value tag a b → r ≡ eval (λ v. 0) (term_at ws i)
-    reduced_pair l m k d =
-        d
-        ∙ rw (h, k, e, g, q) (sym (pair_eval tag_here (term_at ws (low (parts_at ws i))) (term_at ws (high (parts_at ws i))) (omega arith)))
-        ∙ sym (ap (eval (λ v. 0)) (term_here ∙ pair_built (term_at ws) tag_here (parts_at ws i) (value_at ws i) (omega arith, omega arith)))
-
-    pub reduced_shift : {r : ℕ} → 4 < tag → r ≡ shift_w y a → r ≡ eval (λ v. 0) (term_at ws i)
-    unfolding eval
-    reduced_shift m d = d ∙ rw (h, e, g, term_here, shift_tag tag_here (parts_at ws i) (value_at ws i) (rw (← q) m))
+  pub reduced_shift : {count part a x : ℕ} → Shift count part ≡ view_of ws i → a ≡ eval (λ v. 0) (term_at ws part) → x ≡ shift_w count a → x ≡ eval (λ v. 0) (term_at ws i)
+  unfolding eval
+  reduced_shift e p d = d ∙ rw (p, node_built f.shaped e)
 
 -- ---- the same term
 -- the same node stands for both
@@ -80,55 +48,70 @@ same_facts {ws} {i} {j} f g n = go (eq_term (term_at ws i) (term_at ws j)) refl
     go true e = absurd (n ((marks_here f).facts ∙ ap facts_of (same_term (term_at ws i) (term_at ws j) e) ∙ sym (marks_here g).facts))
     go false e = refl
 
--- two nodes of one tag: leaves, pairs and shifts
-module _ (f : ℕ → Term) (p q v w : ℕ) where
-  by_leaf : (tag : ℕ) → tag < 2 → eqb (leaf_number tag p v) (leaf_number tag q w) ≡ eq_term (build f (node_of_tag tag p v)) (build f (node_of_tag tag q w))
+-- a node of the same tag as another, with parts and a value of its own
+abbrev like : Node → (parts value : ℕ) → Node
+like (Constant c) p v = Constant v
+like (Variable w) p v = Variable p
+like (Pair o l r) p v = Pair o (low p) (high p)
+like (Shift count part) p v = Shift (high p) (low p)
+
+like_is : (t p v q w : ℕ) → node_of_tag t q w ≡ like (node_of_tag t p v) q w
+like_is zero p v q w = refl
+like_is (suc zero) p v q w = refl
+like_is (suc (suc zero)) p v q w = refl
+like_is (suc (suc (suc zero))) p v q w = refl
+like_is (suc (suc (suc (suc zero)))) p v q w = refl
+like_is (suc (suc (suc (suc (suc t))))) p v q w = refl
+
+pairs_equal : (o : Operation) (a b c d : Term) → (eq_term a c && eq_term b d) ≡ eq_term (operation_of o a b) (operation_of o c d)
+unfolding eq_term
+pairs_equal Sum a b c d = refl
+pairs_equal Difference a b c d = refl
+pairs_equal Mask a b c d = refl
+
+-- nodes that are alike
+module _ {ws : List ℕ} {i j : ℕ} (f : Shaped ws (suc i)) (g : Shaped ws (suc j)) {alike : Bool} (s : alike ≡ eqb (low (marks_at ws i)) (low (marks_at ws j))) (h : alike ≡ true) where
+  same_tag : marks_at ws i % 8 ≡ marks_at ws j % 8
+  same_tag = let l : low (marks_at ws i) ≡ low (marks_at ws j) = eqb-true (low (marks_at ws i)) (low (marks_at ws j)) (sym s ∙ h) in omega arith
+
+  -- node i seen as n: node j is one like it
+  module _ {n : Node} (e : n ≡ view_of ws i) where
+    other : like n (parts_at ws j) (value_at ws j) ≡ view_of ws j
+    unfolding view_of
+    other =
+        ap (λ o. like o (parts_at ws j) (value_at ws j)) (e ∙ rw same_tag)
+        ∙ sym (like_is (marks_at ws j % 8) (parts_at ws i) (value_at ws i) (parts_at ws j) (value_at ws j))
+
+    -- the parts of both come before them
+    pub parts_before : InOrder i n × InOrder j (like n (parts_at ws j) (value_at ws j))
+    parts_before = (node_order f e, node_order g other)
+
+    terms_equal : eq_term (build (term_at ws) n) (build (term_at ws) (like n (parts_at ws j) (value_at ws j))) ≡ eq_term (term_at ws i) (term_at ws j)
+    terms_equal = sym (rw (node_built f e, node_built g other))
+
+  pub constants_equal : {a b : ℕ} → Constant a ≡ view_of ws i → b ≡ value_at ws j → eqb a b ≡ eq_term (term_at ws i) (term_at ws j)
   unfolding eq_term
-  by_leaf zero h = refl
-  by_leaf (suc zero) h = refl
-  by_leaf (suc (suc t)) h = absurd (omega arith)
+  constants_equal e q = rw q (terms_equal e)
 
-  by_pair : (tag : ℕ) → (1 < tag) × (tag < 5) → (eq_term (f (low p)) (f (low q)) && eq_term (f (high p)) (f (high q))) ≡ eq_term (build f (node_of_tag tag p v)) (build f (node_of_tag tag q w))
+  pub variables_equal : {a b : ℕ} → Variable a ≡ view_of ws i → b ≡ parts_at ws j → eqb a b ≡ eq_term (term_at ws i) (term_at ws j)
   unfolding eq_term
-  by_pair = at_pair (λ tag. (eq_term (f (low p)) (f (low q)) && eq_term (f (high p)) (f (high q))) ≡ eq_term (build f (node_of_tag tag p v)) (build f (node_of_tag tag q w))) refl refl refl
+  variables_equal e q = rw q (terms_equal e)
 
-  by_shift : (tag : ℕ) → 4 < tag → (eqb (high p) (high q) && eq_term (f (low p)) (f (low q))) ≡ eq_term (build f (node_of_tag tag p v)) (build f (node_of_tag tag q w))
-  unfolding eq_term
-  by_shift = at_shift (λ tag. (eqb (high p) (high q) && eq_term (f (low p)) (f (low q))) ≡ eq_term (build f (node_of_tag tag p v)) (build f (node_of_tag tag q w))) (λ tag. refl)
+  module _ {o : Operation} {l r x : ℕ} (e : Pair o l r ≡ view_of ws i) (p : x ≡ low (parts_at ws j)) {b : Bool} (q : b ≡ eq_term (term_at ws l) (term_at ws x)) where
+    pairs_are : (b && eq_term (term_at ws r) (term_at ws (high (parts_at ws j)))) ≡ eq_term (term_at ws i) (term_at ws j)
+    pairs_are = rw (q, p) (pairs_equal o (term_at ws l) (term_at ws r) (term_at ws (low (parts_at ws j))) (term_at ws (high (parts_at ws j))) ∙ terms_equal e)
 
--- the ways out of `equal` once the facts of both are the same: x and y are the first parts, m and n the second
-module _ {ws : List ℕ} {i j tag : ℕ} (f : Shaped ws (suc i)) (g : Shaped ws (suc j)) (h : low (marks_at ws i) ≡ low (marks_at ws j)) (e : tag ≡ marks_at ws i % 8) where
-  other_tag : marks_at ws j % 8 ≡ tag
-  other_tag = omega arith
+    pub first_differs : b ≡ false → b ≡ eq_term (term_at ws i) (term_at ws j)
+    first_differs d = d ∙ rw d at pairs_are
 
-  same_tags : eq_term (build (term_at ws) (node_of_tag tag (parts_at ws i) (value_at ws i))) (build (term_at ws) (node_of_tag tag (parts_at ws j) (value_at ws j))) ≡ eq_term (term_at ws i) (term_at ws j)
-  unfolding view_of
-  same_tags = sym (rw (built_here f, built_here g, other_tag, ← e))
+    pub second_same : {y : ℕ} {c : Bool} → b ≡ true → y ≡ high (parts_at ws j) → c ≡ eq_term (term_at ws r) (term_at ws y) → c ≡ eq_term (term_at ws i) (term_at ws j)
+    second_same d m a = a ∙ rw m (rw d at pairs_are)
 
-  pub same_leaf : {a b : ℕ} → tag < 2 → a ≡ leaf_number tag (parts_at ws i) (value_at ws i) → b ≡ leaf_number tag (parts_at ws j) (value_at ws j) → eqb a b ≡ eq_term (term_at ws i) (term_at ws j)
-  same_leaf l p q = rw (p, q) (by_leaf (term_at ws) (parts_at ws i) (parts_at ws j) (value_at ws i) (value_at ws j) tag l ∙ same_tags)
+  module _ {m part n : ℕ} (e : Shift m part ≡ view_of ws i) (p : n ≡ high (parts_at ws j)) where
+    pub counts_differ : m ≢ n → eqb m n ≡ eq_term (term_at ws i) (term_at ws j)
+    unfolding eq_term
+    counts_differ d = ne_eqb m n d ∙ rw (ne_eqb m (high (parts_at ws j)) (λ q. d (q ∙ sym p))) at (terms_equal e)
 
-  module _ (l : 1 < tag) {x y : ℕ} (p : x ≡ low (parts_at ws i)) (q : y ≡ low (parts_at ws j)) where
-    pub first_parts : (x < i) × (y < j)
-    first_parts = (first_part f e p l, first_part g (sym other_tag) q l)
-
-    module _ {r : Bool} (o : r ≡ eq_term (term_at ws x) (term_at ws y)) where
-      first_is : eq_term (term_at ws (low (parts_at ws i))) (term_at ws (low (parts_at ws j))) ≡ r
-      first_is = sym (rw (← p, ← q) o)
-
-      pub first_differs : r ≡ false → false ≡ eq_term (term_at ws i) (term_at ws j)
-      first_differs d = go (dec_lt tag 5)
-        where
-          go : Dec (tag < 5) → false ≡ eq_term (term_at ws i) (term_at ws j)
-          go (yes m) = rw (first_is ∙ d) at (by_pair (term_at ws) (parts_at ws i) (parts_at ws j) (value_at ws i) (value_at ws j) tag (l, m)) ∙ same_tags
-          go (no m) = sym (and-false (eqb (high (parts_at ws i)) (high (parts_at ws j)))) ∙ rw (first_is ∙ d) at (by_shift (term_at ws) (parts_at ws i) (parts_at ws j) (value_at ws i) (value_at ws j) tag (omega arith)) ∙ same_tags
-
-      module _ (d : r ≡ true) {m n : ℕ} (a : m ≡ high (parts_at ws i)) (b : n ≡ high (parts_at ws j)) where
-        pub same_count : 4 < tag → eqb m n ≡ eq_term (term_at ws i) (term_at ws j)
-        same_count k = rw (a, b) (sym (and-true (eqb (high (parts_at ws i)) (high (parts_at ws j)))) ∙ rw (first_is ∙ d) at (by_shift (term_at ws) (parts_at ws i) (parts_at ws j) (value_at ws i) (value_at ws j) tag k) ∙ same_tags)
-
-        pub second_parts : tag < 5 → (m < i) × (n < j)
-        second_parts k = (second_part f e a (l, k), second_part g (sym other_tag) b (l, k))
-
-        pub same_second : {z : Bool} → tag < 5 → z ≡ eq_term (term_at ws m) (term_at ws n) → z ≡ eq_term (term_at ws i) (term_at ws j)
-        same_second k c = c ∙ rw (a, b) (rw (first_is ∙ d) at (by_pair (term_at ws) (parts_at ws i) (parts_at ws j) (value_at ws i) (value_at ws j) tag (l, k)) ∙ same_tags)
+    pub shifted_same : {x : ℕ} {c : Bool} → m ≡ n → x ≡ low (parts_at ws j) → c ≡ eq_term (term_at ws part) (term_at ws x) → c ≡ eq_term (term_at ws i) (term_at ws j)
+    unfolding eq_term
+    shifted_same d q a = a ∙ rw q (rw (eq-eqb m (high (parts_at ws j)) (d ∙ p)) at (terms_equal e))

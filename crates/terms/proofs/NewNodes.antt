@@ -1,105 +1,119 @@
 -- Laws of new nodes: their facts and values, and the functions that put them, one for each way out. Assumes nothing.
-use mathlib.Core.Path.{◌≡◌, refl, sym, ap, ap₂, subst, ◌∙◌}
-use mathlib.Core.Logic.{inl, inr, ◌≢◌}
+use mathlib.Core.Path.{◌≡◌, refl, sym, ap, subst, ◌∙◌}
+use mathlib.Core.Logic.{inr}
 use mathlib.Core.Bool.{Bool, true, false, ◌&&◌, and-false}
 use mathlib.Core.List.{List}
 use Prim.Native.Nat.{ℕ, suc, ◌+◌, ◌*◌, ◌/◌, ◌%◌, ◌^◌, ◌<◌, ◌≤◌}
 use native.Mathlib.Omega.{arith}
-use lib.ListN.{set}
 use lib.Dec.{eqb}
 use borrow.Author.Tests.{eqb-true}
-use Rattle.model.specs.Word.{mask_w}
-use Rattle.model.specs.Term.{Term, sum, difference, mask, shift, eval, size, closed}
+use Rattle.model.specs.Term.{Term, shift, eval, size, closed}
 use Rattle.model.specs.Expression.{most_count}
 use Rattle.model.proofs.Terms.{and_left, and_right}
-use Rattle.workspace.specs.Layout.{most_variables, hint_base, Same}
-use Rattle.nodes.specs.Table.{low, high, parts_at, value_at, marks_at, valued_at, node_of_tag, view_of, build, operation_of, term_at, term_of, plain, pair_value, bit, capped, facts_of, value_of, InOrder, Marked, Formed, Put, Fits, Twinned}
-use Rattle.nodes.specs.declared.Node.TheVariants.{Shift}
-use Rattle.workspace.proofs.Frames.{same_refl, set_before}
-use Rattle.nodes.proofs.Facts.{bit_both, capped_sum, capped_suc, closed_bit, valued_bit, plain_bit, size_in, valued_at_lem, kept_value, no_value, value_is_kept, pair_eval}
-use Rattle.nodes.proofs.Table.{at_operation, at_pair, pair_built, marks_here}
+use Rattle.workspace.specs.Layout.{most_variables, hint_base}
+use Rattle.nodes.specs.Table.{low, high, parts_at, value_at, marks_at, operation_tag, linear, operation_of, node_of_tag, view_of, build, term_at, term_of, plain, pair_value, capped, facts_from, facts_of, holds_of, value_of, Formed, Put, Fits, Marked, Twinned}
+use Rattle.nodes.specs.declared.Operation.{Operation}
+use Rattle.nodes.specs.declared.Operation.TheVariants.{Sum, Difference, Mask}
+use Rattle.nodes.specs.declared.Node.TheVariants.{Pair, Shift}
+use Rattle.workspace.proofs.Frames.{same_refl}
+use Rattle.nodes.proofs.Facts.{capped_sum, capped_suc, closed_bit, plain_bit, size_in, kept_value, no_value, pair_eval}
+use Rattle.nodes.proofs.Table.{value_here}
 
--- ---- a pair's facts and value, by those of its parts
-module _ (s t : Term) where
-  pair_facts : (tag : ℕ) → (1 < tag) × (tag < 5) → facts_of (operation_of tag s t) ≡ tag + 8 * (bit (closed s) * bit (closed t)) + 16 * bit (closed (operation_of tag s t) && plain (operation_of tag s t)) + 32 * bit (plain (operation_of tag s t)) + 64 * capped (capped (size s) + capped (size t) + 1)
-  unfolding facts_of closed size
-  pair_facts tag = at_pair (λ tag. facts_of (operation_of tag s t) ≡ tag + 8 * (bit (closed s) * bit (closed t)) + 16 * bit (closed (operation_of tag s t) && plain (operation_of tag s t)) + 32 * bit (plain (operation_of tag s t)) + 64 * capped (capped (size s) + capped (size t) + 1)) (joined 2 (plain (sum s t))) (joined 3 (plain (difference s t))) (joined 4 (plain (mask s t))) tag
-    where
-      joined : (n : ℕ) (p : Bool) → n + 8 * bit (closed s && closed t) + 16 * bit (closed s && closed t && p) + 32 * bit p + 64 * capped (size s + size t + 1) ≡ n + 8 * (bit (closed s) * bit (closed t)) + 16 * bit (closed s && closed t && p) + 32 * bit p + 64 * capped (capped (size s) + capped (size t) + 1)
-      joined n p = ap₂ (λ x y. n + 8 * x + 16 * bit (closed s && closed t && p) + 32 * bit p + 64 * y) (bit_both (closed s) (closed t)) (capped_sum (size s) (size t))
+-- ---- a term's facts and value, by those of its parts
+facts_sized : (tag : ℕ) (c p : Bool) (m n : ℕ) → capped m ≡ capped n → facts_from tag c p m ≡ facts_from tag c p n
+facts_sized tag c p m n e = rw e
 
-  shift_facts : (count : ℕ) → facts_of (shift count s) ≡ 5 + 8 * bit (closed s) + 64 * capped (capped (size s) + 1)
-  unfolding facts_of closed plain size
-  shift_facts count = rw (and-false (closed s), capped_suc (size s)) (omega arith)
+tag_bound : (o : Operation) → operation_tag o < 8
+tag_bound Sum = omega arith
+tag_bound Difference = omega arith
+tag_bound Mask = omega arith
 
-  -- a sum or a difference holds a value where both its parts do
-  and_swap : (a b c d : Bool) → ((a && b) && (c && d)) ≡ ((a && c) && (b && d))
-  and_swap true true c d = refl
-  and_swap true false true d = refl
-  and_swap true false false d = refl
-  and_swap false b c d = refl
+pair_node : (o : Operation) (p v : ℕ) → node_of_tag (operation_tag o) p v ≡ Pair o (low p) (high p)
+pair_node Sum p v = refl
+pair_node Difference p v = refl
+pair_node Mask p v = refl
 
-  pair_valued : (tag : ℕ) → (1 < tag) × (tag < 4) → (closed (operation_of tag s t) && plain (operation_of tag s t)) ≡ ((closed s && plain s) && (closed t && plain t))
-  unfolding closed plain
-  pair_valued tag h = at_operation (λ tag. tag < 4 → (closed (operation_of tag s t) && plain (operation_of tag s t)) ≡ ((closed s && plain s) && (closed t && plain t))) (λ k. swap) (λ k. swap) (λ k. absurd (omega arith)) (λ tag k. absurd (omega arith)) tag h.0 h.1
-    where
-      swap : ((closed s && closed t) && (plain s && plain t)) ≡ ((closed s && plain s) && (closed t && plain t))
-      swap = and_swap (closed s) (closed t) (plain s) (plain t)
+-- whether an operation is closed, and whether it is plain, by the same of its parts
+closed_pair : (o : Operation) (s t : Term) → (closed s && closed t) ≡ closed (operation_of o s t)
+unfolding closed
+closed_pair Sum s t = refl
+closed_pair Difference s t = refl
+closed_pair Mask s t = refl
 
-  -- and is plain where both are
-  pair_plain : (tag : ℕ) → (1 < tag) × (tag < 4) → bit (plain (operation_of tag s t)) ≡ bit (plain s) * bit (plain t)
-  unfolding plain
-  pair_plain tag h = at_operation (λ tag. tag < 4 → bit (plain (operation_of tag s t)) ≡ bit (plain s) * bit (plain t)) (λ k. bit_both (plain s) (plain t)) (λ k. bit_both (plain s) (plain t)) (λ k. absurd (omega arith)) (λ tag k. absurd (omega arith)) tag h.0 h.1
+plain_pair : (o : Operation) (s t : Term) → (linear o && plain s && plain t) ≡ plain (operation_of o s t)
+unfolding plain
+plain_pair Sum s t = refl
+plain_pair Difference s t = refl
+plain_pair Mask s t = refl
 
-  -- a mask is not plain, and holds no value
-  mask_plain : (tag : ℕ) → 4 ≤ tag → plain (operation_of tag s t) ≡ false
-  unfolding plain
-  mask_plain tag h = at_operation (λ tag. 4 ≤ tag → plain (operation_of tag s t) ≡ false) (λ k. absurd (omega arith)) (λ k. absurd (omega arith)) (λ k. refl) (λ tag k. refl) tag (omega arith) h
+pair_facts : (o : Operation) (s t : Term) → facts_from (operation_tag o) (closed s && closed t) (linear o && plain s && plain t) (capped (size s) + capped (size t) + 1) ≡ facts_of (operation_of o s t)
+unfolding facts_of closed plain size
+pair_facts Sum s t = facts_sized 2 (closed s && closed t) (plain s && plain t) _ _ (sym (capped_sum (size s) (size t)))
+pair_facts Difference s t = facts_sized 3 (closed s && closed t) (plain s && plain t) _ _ (sym (capped_sum (size s) (size t)))
+pair_facts Mask s t = facts_sized 4 (closed s && closed t) false _ _ (sym (capped_sum (size s) (size t)))
 
-pub mask_value : (tag a b : ℕ) {r : ℕ} → 1 < tag → tag ≢ 2 → tag ≢ 3 → r ≡ mask_w a b → r ≡ pair_value tag a b
-mask_value tag a b {r} = at_operation (λ tag. tag ≢ 2 → tag ≢ 3 → r ≡ mask_w a b → r ≡ pair_value tag a b) (λ n m e. absurd (n refl)) (λ n m e. absurd (m refl)) (λ n m e. e) (λ tag n m e. e) tag
+shift_facts : (count : ℕ) (s : Term) → facts_from 5 (closed s) false (capped (size s) + 1) ≡ facts_of (shift count s)
+unfolding facts_of closed plain size
+shift_facts count s = facts_sized 5 (closed s) false _ _ (sym (capped_suc (size s)))
+
+-- where an operation holds a value, so do both its parts
+both_hold : (a b l c d : Bool) → ((a && b) && (l && c && d)) ≡ true → ((a && c) ≡ true) × ((b && d) ≡ true)
+both_hold a b l c d h =
+    let left : (a && b) ≡ true = and_left (a && b) (l && c && d) h in
+    let right : (l && c && d) ≡ true = and_right (a && b) (l && c && d) h in
+    let is_a : a ≡ true = and_left a b left in
+    let is_b : b ≡ true = and_right a b left in
+    let is_c : c ≡ true = and_right l c (and_left (l && c) d right) in
+    let is_d : d ≡ true = and_right (l && c) d right in
+    (rw (is_a, is_c), rw (is_b, is_d))
+
+parts_hold : (o : Operation) (s t : Term) → holds_of (operation_of o s t) ≡ true → (holds_of s ≡ true) × (holds_of t ≡ true)
+parts_hold o s t h = both_hold (closed s) (closed t) (linear o) (plain s) (plain t) (rw (closed_pair o s t, plain_pair o s t) h)
+
+-- the value of an operation on two nodes
+module _ {ws : List ℕ} {left right : ℕ} (f : Formed ws (suc left)) (g : Formed ws (suc right)) (o : Operation) {b : Bool} (h : b ≡ holds_of (operation_of o (term_at ws left) (term_at ws right))) where
+  pub computed_pair : {x y r : ℕ} → b ≡ true → x ≡ value_at ws left → y ≡ value_at ws right → r ≡ pair_value o x y → r ≡ value_of (operation_of o (term_at ws left) (term_at ws right))
+  computed_pair l p q e =
+      let held = parts_hold o (term_at ws left) (term_at ws right) (sym h ∙ l) in
+      e
+      ∙ rw (p, q, value_here f, value_here g, kept_value (term_at ws left) true held.0 refl, kept_value (term_at ws right) true held.1 refl) (sym (pair_eval o (term_at ws left) (term_at ws right)))
+      ∙ sym (kept_value (operation_of o (term_at ws left) (term_at ws right)) true (sym h ∙ l) refl)
+
+  pub computed_none : b ≡ false → 0 ≡ value_of (operation_of o (term_at ws left) (term_at ws right))
+  computed_none l = sym (no_value (operation_of o (term_at ws left) (term_at ws right)) false (sym h ∙ l) refl)
 
 -- ---- the words of a new node
 module _ (ws : List ℕ) (top : ℕ) where
-  pub fits_constant : {v : ℕ} → v < 2 ^ 32 → Fits ws top 0 v 120
+  pub fits_constant : {v facts : ℕ} → v < 2 ^ 32 → facts ≡ facts_from 0 true true 1 → Fits ws top 0 v facts
   unfolding facts_of value_of closed plain eval size
-  fits_constant h = record { order = tt; facts_are = refl; value_is = omega arith }
+  fits_constant h e = rw e (record { order = tt; facts_are = refl; value_is = omega arith })
 
-  pub fits_variable : {v : ℕ} → v < most_variables → Fits ws top v 0 97
+  pub fits_variable : {v facts : ℕ} → v < most_variables → facts ≡ facts_from 1 false true 1 → Fits ws top v 0 facts
   unfolding facts_of value_of closed plain size
-  fits_variable h = record { order = h; facts_are = refl; value_is = omega arith }
+  fits_variable h e = rw e (record { order = h; facts_are = refl; value_is = omega arith })
 
--- whether a pair of nodes is plain and holds a value, by their marks a and b
-module _ {ws : List ℕ} {top tag left right : ℕ} (f : Formed ws top) (i : (left < top) × (right < top)) {a b x y : ℕ} (h : (1 < tag) × (tag < 4)) (ea : a ≡ marks_at ws left) (eb : b ≡ marks_at ws right) where
-  pub both_plain : x ≡ a / 32 % 2 → y ≡ b / 32 % 2 → x * y ≡ bit (plain (operation_of tag (term_at ws left) (term_at ws right)))
-  both_plain ex ey =
-      rw (ex, ey, ea, eb, plain_bit (marks_at ws left) (term_at ws left) (f.shaped.marked left i.0).facts, plain_bit (marks_at ws right) (term_at ws right) (f.shaped.marked right i.1).facts)
-      (sym (pair_plain (term_at ws left) (term_at ws right) tag h))
+-- what the marks a of node n say of its term
+module _ {ws : List ℕ} {n a : ℕ} (k : Marked ws n) (ea : a ≡ marks_at ws n) where
+  abbrev here : Term
+  here = term_at ws n
 
-  pub both_valued : x ≡ a / 16 % 2 → y ≡ b / 16 % 2 → x * y ≡ bit (closed (operation_of tag (term_at ws left) (term_at ws right)) && plain (operation_of tag (term_at ws left) (term_at ws right)))
-  both_valued ex ey =
-      rw (ex, ey, ea, eb, valued_bit (marks_at ws left) (term_at ws left) (f.shaped.marked left i.0).facts, valued_bit (marks_at ws right) (term_at ws right) (f.shaped.marked right i.1).facts)
-      (sym (ap bit (pair_valued (term_at ws left) (term_at ws right) tag h) ∙ bit_both (closed (term_at ws left) && plain (term_at ws left)) (closed (term_at ws right) && plain (term_at ws right))))
+  facts_here : low a ≡ facts_of here
+  facts_here = rw ea k.facts
 
--- a mask is not plain, and has no value
-pub mask_bit : (s t : Term) (tag : ℕ) → 4 ≤ tag → 0 ≡ bit (plain (operation_of tag s t))
-mask_bit s t tag h = rw (mask_plain s t tag h)
+  closed_here : {b : Bool} → b ≡ eqb (a / 8 % 2) 1 → b ≡ closed here
+  closed_here e = e ∙ closed_bit a here facts_here
 
-mask_open : (s t : Term) (tag : ℕ) → 4 ≤ tag → (closed (operation_of tag s t) && plain (operation_of tag s t)) ≡ false
-mask_open s t tag h = rw (mask_plain s t tag h) (and-false (closed (operation_of tag s t)))
+  plain_here : {b : Bool} → b ≡ eqb (a / 32 % 2) 1 → b ≡ plain here
+  plain_here e = e ∙ plain_bit a here facts_here
 
-pub mask_unvalued : (s t : Term) (tag : ℕ) → 4 ≤ tag → 0 ≡ bit (closed (operation_of tag s t) && plain (operation_of tag s t))
-mask_unvalued s t tag h = rw (mask_open s t tag h)
+  size_here : {m : ℕ} → m ≡ low a / 64 → m ≡ capped (size here)
+  size_here e = e ∙ size_in a here facts_here
 
-pub mask_no_value : (s t : Term) (tag : ℕ) → 4 ≤ tag → 0 ≡ value_of (operation_of tag s t)
-mask_no_value s t tag h = sym (no_value (operation_of tag s t) false (mask_open s t tag h) refl)
-
--- a pair of nodes: a and b are their marks, x and y the nodes that stand for their terms
-module _ {ws : List ℕ} {top tag left right : ℕ} (f : Formed ws top) (h : (1 < tag) × (tag < 5)) (i : (left < top) × (right < top)) {a b x y valued plainness value facts : ℕ}
-    (ea : a ≡ marks_at ws left) (eb : b ≡ marks_at ws right) (ex : (x ≡ high a) × (x < 65536)) (ey : (y ≡ high b) × (y < 65536))
-    (v : value ≡ value_of (operation_of tag (term_at ws left) (term_at ws right))) (k : valued ≡ bit (closed (operation_of tag (term_at ws left) (term_at ws right)) && plain (operation_of tag (term_at ws left) (term_at ws right)))) (l : plainness ≡ bit (plain (operation_of tag (term_at ws left) (term_at ws right)))) (e : facts ≡ tag + 8 * ((a / 8 % 2) * (b / 8 % 2)) + 16 * valued + 32 * plainness + 64 * capped (low a / 64 + low b / 64 + 1)) where
-  abbrev parts : ℕ
-  parts = x + 65536 * y
+-- ---- an operation on two nodes: a and b are their marks; c and d say whether they are closed, p and q whether they are plain
+module _ {ws : List ℕ} {top left right : ℕ} (f : Formed ws top) (i : (left < top) × (right < top)) (o : Operation) {a b : ℕ} {l c d p q : Bool}
+    (ea : a ≡ marks_at ws left) (eb : b ≡ marks_at ws right) (ec : c ≡ eqb (a / 8 % 2) 1) (ed : d ≡ eqb (b / 8 % 2) 1) (el : l ≡ linear o) (ep : p ≡ eqb (a / 32 % 2) 1) (eq : q ≡ eqb (b / 32 % 2) 1) where
+  abbrev pair_of : Term
+  pair_of = operation_of o (term_at ws left) (term_at ws right)
 
   marked_left : Marked ws left
   marked_left = f.shaped.marked left i.0
@@ -107,53 +121,59 @@ module _ {ws : List ℕ} {top tag left right : ℕ} (f : Formed ws top) (h : (1 
   marked_right : Marked ws right
   marked_right = f.shaped.marked right i.1
 
-  facts_left : low a ≡ facts_of (term_at ws left)
-  facts_left = rw ea marked_left.facts
+  closed_is : (c && d) ≡ closed pair_of
+  closed_is = rw (closed_here marked_left ea ec, closed_here marked_right eb ed) (closed_pair o (term_at ws left) (term_at ws right))
 
-  facts_right : low b ≡ facts_of (term_at ws right)
-  facts_right = rw eb marked_right.facts
+  plain_is : (l && p && q) ≡ plain pair_of
+  plain_is = rw (el, plain_here marked_left ea ep, plain_here marked_right eb eq) (plain_pair o (term_at ws left) (term_at ws right))
 
-  joined_facts : facts ≡ facts_of (operation_of tag (term_at ws left) (term_at ws right))
-  joined_facts =
-      e
-      ∙ rw (k, l, closed_bit a (term_at ws left) facts_left, closed_bit b (term_at ws right) facts_right, size_in a (term_at ws left) facts_left, size_in b (term_at ws right) facts_right)
-      (sym (pair_facts (term_at ws left) (term_at ws right) tag h))
+  pub holds_is : ((c && d) && (l && p && q)) ≡ holds_of pair_of
+  holds_is = rw (closed_is, plain_is)
 
-  tag_of : facts % 8 ≡ tag
-  tag_of = omega arith
+  -- its words: x and y are the nodes that stand for its parts, m and n their sizes
+  module _ {x y tag m n value facts : ℕ} (ex : (x ≡ high a) × (x < 65536)) (ey : (y ≡ high b) × (y < 65536)) (et : tag ≡ operation_tag o) (em : m ≡ low a / 64) (en : n ≡ low b / 64)
+      (v : value ≡ value_of pair_of) (e : facts ≡ facts_from tag (c && d) (l && p && q) (m + n + 1)) where
+    abbrev parts : ℕ
+    parts = x + 65536 * y
 
-  low_parts : low parts ≡ high (marks_at ws left)
-  low_parts = let m : low parts ≡ x = omega arith in m ∙ ex.0 ∙ ap high ea
+    joined_facts : facts ≡ facts_of pair_of
+    joined_facts =
+        e
+        ∙ rw (et, closed_here marked_left ea ec, closed_here marked_right eb ed, el, plain_here marked_left ea ep, plain_here marked_right eb eq, size_here marked_left ea em, size_here marked_right eb en)
+        (pair_facts o (term_at ws left) (term_at ws right))
 
-  high_parts : high parts ≡ high (marks_at ws right)
-  high_parts = let m : high parts ≡ y = omega arith in m ∙ ey.0 ∙ ap high eb
+    tag_of : facts % 8 ≡ operation_tag o
+    tag_of = omega (arith, e, et, tag_bound o)
 
-  parts_before : (low parts < top) × (high parts < top)
-  parts_before = (omega (arith, marked_left.before, low_parts), omega (arith, marked_right.before, high_parts))
+    low_parts : low parts ≡ high (marks_at ws left)
+    low_parts = let l : low parts ≡ x = omega arith in l ∙ ex.0 ∙ ap high ea
 
-  pair_term : term_of ws parts value facts ≡ operation_of tag (term_at ws left) (term_at ws right)
-  pair_term = rw tag_of (pair_built (term_at ws) tag parts value h ∙ rw (low_parts, high_parts, marked_left.twin, marked_right.twin))
+    high_parts : high parts ≡ high (marks_at ws right)
+    high_parts = let l : high parts ≡ y = omega arith in l ∙ ey.0 ∙ ap high eb
 
-  pub fits_pair : Fits ws top parts value facts
-  fits_pair = record { order = rw tag_of (at_pair (λ t. InOrder top (node_of_tag t parts value)) parts_before parts_before parts_before tag h); facts_are = rw pair_term joined_facts; value_is = rw pair_term v }
+    new_pair : node_of_tag (facts % 8) parts value ≡ Pair o (high (marks_at ws left)) (high (marks_at ws right))
+    new_pair = rw tag_of (pair_node o parts value ∙ rw (low_parts, high_parts))
 
-  pub put_as_pair : {us : List ℕ} → Put ws us top (term_of ws parts value facts) → Put ws us top (operation_of tag (term_at ws left) (term_at ws right))
-  put_as_pair {us} p = subst (Put ws us top) pair_term p
+    pair_term : term_of ws parts value facts ≡ pair_of
+    pair_term = ap (build (term_at ws)) new_pair ∙ rw (marked_left.twin, marked_right.twin)
 
--- a shift of a node: a are its marks, x the node that stands for its term
-module _ {ws : List ℕ} {top count part : ℕ} (f : Formed ws top) (i : (count ≤ most_count) × (part < top)) {a x c facts : ℕ}
-    (ea : a ≡ marks_at ws part) (ex : (x ≡ high a) × (x < 65536)) (ec : c ≡ count) (e : facts ≡ 5 + 8 * (a / 8 % 2) + 64 * capped (low a / 64 + 1)) where
+    pub fits_pair : Fits ws top parts value facts
+    fits_pair = record { order = rw new_pair (omega (arith, marked_left.before), omega (arith, marked_right.before)); facts_are = rw pair_term joined_facts; value_is = rw pair_term v }
+
+    pub put_as_pair : {us : List ℕ} → Put ws us top (term_of ws parts value facts) → Put ws us top pair_of
+    put_as_pair {us} u = subst (Put ws us top) pair_term u
+
+-- ---- a shift of a node: a are its marks, x the node that stands for its term
+module _ {ws : List ℕ} {top count part : ℕ} (f : Formed ws top) (few : count ≤ most_count) (i : part < top) {a x n facts : ℕ} {b : Bool}
+    (ea : a ≡ marks_at ws part) (ex : (x ≡ high a) × (x < 65536)) (eb : b ≡ eqb (a / 8 % 2) 1) (en : n ≡ low a / 64) (e : facts ≡ facts_from 5 b false (n + 1)) where
   abbrev shift_parts : ℕ
-  shift_parts = x + 65536 * c
+  shift_parts = x + 65536 * count
 
   marked_part : Marked ws part
-  marked_part = f.shaped.marked part i.1
-
-  facts_part : low a ≡ facts_of (term_at ws part)
-  facts_part = rw ea marked_part.facts
+  marked_part = f.shaped.marked part i
 
   low_shift : low shift_parts ≡ high (marks_at ws part)
-  low_shift = let m : low shift_parts ≡ x = omega arith in m ∙ ex.0 ∙ ap high ea
+  low_shift = let l : low shift_parts ≡ x = omega arith in l ∙ ex.0 ∙ ap high ea
 
   high_shift : high shift_parts ≡ count
   high_shift = omega arith
@@ -168,32 +188,12 @@ module _ {ws : List ℕ} {top count part : ℕ} (f : Formed ws top) (i : (count 
   unfolding value_of plain
   fits_shift = record {
     order = rw shift_node (omega (arith, marked_part.before));
-    facts_are = rw shift_term (e ∙ rw (closed_bit a (term_at ws part) facts_part, size_in a (term_at ws part) facts_part) (sym (shift_facts (term_at ws part) (term_at ws part) count)));
+    facts_are = rw shift_term (e ∙ rw (closed_here marked_part ea eb, size_here marked_part ea en) (shift_facts count (term_at ws part)));
     value_is = rw (shift_term, and-false (closed (shift count (term_at ws part)))) (omega arith);
   }
 
   pub put_as_shift : {us : List ℕ} → Put ws us top (term_of ws shift_parts 0 facts) → Put ws us top (shift count (term_at ws part))
   put_as_shift {us} p = subst (Put ws us top) shift_term p
-
--- ---- the value of a pair
-pub both_hold : {a b x y : Bool} → x ≡ a → y ≡ b → (x && y) ≡ true → (a ≡ true) × (b ≡ true)
-both_hold {a} {b} {x} {y} p q h = (sym p ∙ and_left x y h, sym q ∙ and_right x y h)
-
-module _ {ws : List ℕ} {left right : ℕ} (f : Formed ws (suc left)) (g : Formed ws (suc right)) (tag : ℕ) where
-  abbrev pair_of : Term
-  pair_of = operation_of tag (term_at ws left) (term_at ws right)
-
-  value_by_both : (1 < tag) × (tag < 4) → (closed pair_of && plain pair_of) ≡ (valued_at ws left && valued_at ws right)
-  value_by_both h = rw (valued_at_lem (marks_here f.shaped), valued_at_lem (marks_here g.shaped)) (pair_valued (term_at ws left) (term_at ws right) tag h)
-
-  pub computed_pair : {x y r : ℕ} → (1 < tag) × (tag < 4) → valued_at ws left ≡ true → valued_at ws right ≡ true → x ≡ value_at ws left → y ≡ value_at ws right → r ≡ pair_value tag x y → r ≡ value_of pair_of
-  computed_pair h l m p q e =
-      e
-      ∙ rw (p, q, value_is_kept f l, value_is_kept g m) (sym (pair_eval tag (term_at ws left) (term_at ws right) h.0))
-      ∙ sym (kept_value pair_of (valued_at ws left && valued_at ws right) (value_by_both h) (rw (l, m)))
-
-  pub computed_none : (1 < tag) × (tag < 4) → (valued_at ws left && valued_at ws right) ≡ false → 0 ≡ value_of pair_of
-  computed_none h o = sym (no_value pair_of (valued_at ws left && valued_at ws right) (value_by_both h) o)
 
 -- ---- the node for words
 module _ {ws : List ℕ} {top parts value facts : ℕ} where
@@ -208,6 +208,3 @@ module _ {ws : List ℕ} {top parts value facts : ℕ} where
       let z : low (marks_at ws n) ≡ facts = eqb-true (low (marks_at ws n)) facts (and_right (a && b) c (sym e)) in
       let t : marks_at ws n % 8 ≡ facts % 8 = omega arith in
       record { kept = same_refl 0 hint_base ws; found = inr (h, rw (t, x, y)) }
-
-  pub find_new : {us : List ℕ} {at : ℕ} (w : ℕ) → hint_base ≤ at → us ≡ set ws at w → Twinned ws us top parts value facts top
-  find_new {us} {at} w h e = record { kept = subst (Same 0 hint_base ws) (sym e) (set_before ws at w 0 hint_base h); found = inl refl }

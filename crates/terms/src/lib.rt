@@ -2,23 +2,25 @@
 #![tactic(auto)]
 
 ghost use Rattle.std.specs.Prelude.{◌≡◌, ◌&&◌, suc, ◌+◌, ◌*◌, ◌/◌, ◌%◌, ◌≤◌, ◌<◌, length, eqb};
-ghost use Rattle.model.specs.Term.{constant, variable, sum, difference, shift as shift_of};
+ghost use Rattle.model.specs.Term.{constant, variable, shift as shift_of};
 ghost use Rattle.model.specs.Expression.{most_count};
 ghost use Rattle.model.specs.Verdict.{least_workspace};
 ghost use Rattle.workspace.specs.Layout.{most_variables, hint_base, stored};
-ghost use Rattle.nodes.specs.Table.{low as low_of, parts_at, value_at, marks_at, operation_of, term_at, term_of, pair_value, size_cap, capped, value_of, Formed, Space, Put, Fits, Twinned};
+ghost use Rattle.nodes.specs.Table.{low as low_of, parts_at, value_at, marks_at, operation_of, term_at, term_of, pair_value, facts_from, holds_of, value_of, Formed, Space, Put, Fits, Twinned};
 
 use limits::MOST_TERM_NODES;
+use nodes::Operation;
 use workspace::{HINT_COUNT, HINTS, TABLE};
 
 // Sizes are kept up to this, one more than the nodes of a register's term.
 const SIZE_CAP: u32 = MOST_TERM_NODES + 1;
 
-// The facts of a constant: tag 0, closed, with a value, plain, one node.
-const CONSTANT: u32 = 120;
+// The tags of nodes that are no operation's.
+const CONSTANT: u32 = 0;
 
-// The facts of a variable: tag 1, not closed, plain, one node.
-const VARIABLE: u32 = 97;
+const VARIABLE: u32 = 1;
+
+const SHIFT: u32 = 5;
 
 // Stores three words at a place.
 fn store(ws: &mut [u32], at: usize, a: u32, b: u32, c: u32)
@@ -55,11 +57,9 @@ fn find(ws: &mut [u32], top: usize, parts: u32, value: u32, facts: u32) -> usize
     ensures { Twinned ws.old ws.new top parts value facts result }
 {
     let at = slot(parts, value, facts);
-    let hinted = fields::wide(ws[at]);
-    if hinted < top {
-        if repeats(ws, hinted, parts, value, facts) {
-            return hinted;
-        }
+    let hinted = ws[at] as usize;
+    if hinted < top && repeats(ws, hinted, parts, value, facts) {
+        return hinted;
     }
     ws[at] = top as u32;
     top
@@ -70,7 +70,7 @@ fn put(ws: &mut [u32], top: usize, parts: u32, value: u32, facts: u32)
     requires formed { Formed ws.old top }
     requires space { Space ws.old top 1 }
     requires fits { Fits ws.old top parts value facts }
-    requires facts_bound { facts < 65536 }
+    requires half { facts < 65536 }
     ensures { Put ws.old ws.new top (term_of ws.old parts value facts) }
 {
     let first = find(ws, top, parts, value, facts);
@@ -83,126 +83,93 @@ fn put(ws: &mut [u32], top: usize, parts: u32, value: u32, facts: u32)
     );
 }
 
+// The facts of a term in one number: its tag, whether it is closed, whether it is plain, and its size.
+fn facts(tag: u32, closed: bool, plain: bool, size: u32) -> u32
+    requires { tag < 8 }
+    ensures value { result ≡ facts_from tag closed plain size }
+    ensures half { result < 65536 }
+{
+    let valued = closed & plain;
+    let flags = 8 * u32::from(closed) + 16 * u32::from(valued) + 32 * u32::from(plain);
+    tag + flags + 64 * size.min(SIZE_CAP)
+}
+
 // Puts a constant at node top.
 pub fn put_constant(ws: &mut [u32], top: usize, value: u32)
     requires formed { Formed ws.old top }
     requires space { Space ws.old top 1 }
     ensures { Put ws.old ws.new top (constant value) }
 {
-    put(ws, top, 0, value, CONSTANT);
+    put(ws, top, 0, value, facts(CONSTANT, true, true, 1));
 }
 
 // Puts a variable at node top.
 pub fn put_variable(ws: &mut [u32], top: usize, number: u32)
     requires formed { Formed ws.old top }
     requires space { Space ws.old top 1 }
-    requires number_lt_most_variables { number < most_variables }
+    requires known { number < most_variables }
     ensures { Put ws.old ws.new top (variable number) }
 {
-    put(ws, top, number, 0, VARIABLE);
+    put(ws, top, number, 0, facts(VARIABLE, false, true, 1));
 }
 
-// A size, or the cap if it is more.
-fn at_most_cap(size: u32) -> u32
-    ensures { (result ≡ capped size) × (result ≤ size_cap) }
+// The value of an operation on two words.
+pub fn applied(operation: Operation, a: u32, b: u32) -> u32
+    ensures { result ≡ pair_value operation a b }
 {
-    if SIZE_CAP < size {
-        return SIZE_CAP;
-    }
-    size
-}
-
-// The facts of a pair, by its tag, whether it holds a value and is plain (1) or not (0), and the marks of its parts.
-fn joined(tag: u32, valued: u32, plain: u32, a: u32, b: u32) -> u32
-    requires { (tag < 5) × (valued < 2) × (plain < 2) }
-    ensures { (result ≡ tag + 8 * ((a / 8 % 2) * (b / 8 % 2)) + 16 * valued + 32 * plain + 64 * capped (low_of a / 64 + low_of b / 64 + 1)) × (result < 65536) }
-{
-    let size = at_most_cap(nodes::size(a) + nodes::size(b) + 1);
-    tag + 8 * (nodes::is_closed(a) * nodes::is_closed(b)) + 16 * valued + 32 * plain + 64 * size
-}
-
-// The value of the sum, for tag 2, the difference, for tag 3, or the mask of two words.
-pub fn applied(tag: u32, a: u32, b: u32) -> u32
-    requires { 1 < tag }
-    ensures { result ≡ pair_value tag a b }
-{
-    match tag {
-        2 => fields::add(a, b),
-        3 => fields::sub(a, b),
-        _ => fields::mask(a, b),
+    match operation {
+        Operation::Sum => fields::add(a, b),
+        Operation::Difference => fields::sub(a, b),
+        Operation::Mask => fields::mask(a, b),
     }
 }
 
-// The value of the sum, for tag 2, or the difference, for tag 3, of two nodes, where both hold one; else 0.
-fn computed(ws: &[u32], tag: u32, left: usize, right: usize) -> u32
-    requires formed { Formed ws.now (suc left) }
-    requires formed_2 { Formed ws.now (suc right) }
-    requires lt_tag { (1 < tag) × (tag < 4) }
-    ensures { result ≡ value_of (operation_of tag (term_at ws.now left) (term_at ws.now right)) }
+// The value of an operation on two nodes, where it holds one; then both nodes do.
+fn computed(ws: &[u32], operation: Operation, left: usize, right: usize, valued: bool) -> u32
+    requires left_formed { Formed ws.now (suc left) }
+    requires right_formed { Formed ws.now (suc right) }
+    requires holds { valued ≡ holds_of (operation_of operation (term_at ws.now left) (term_at ws.now right)) }
+    ensures { result ≡ value_of (operation_of operation (term_at ws.now left) (term_at ws.now right)) }
 {
-    if nodes::holds_value(ws, left) & nodes::holds_value(ws, right) {
-        return applied(tag, nodes::value(ws, left), nodes::value(ws, right));
+    if valued {
+        return applied(operation, nodes::value(ws, left), nodes::value(ws, right));
     }
     0
 }
 
-// Puts the sum, for tag 2, the difference, for tag 3, or the mask, for tag 4, of two nodes at node top.
-pub fn put_pair(ws: &mut [u32], top: usize, tag: u32, left: usize, right: usize)
+// Puts an operation on two nodes at node top.
+pub fn put_pair(ws: &mut [u32], top: usize, operation: Operation, left: usize, right: usize)
     requires formed { Formed ws.old top }
     requires space { Space ws.old top 1 }
-    requires left_lt_top { (left < top) × (right < top) }
-    requires lt_tag { (1 < tag) × (tag < 5) }
-    ensures { Put ws.old ws.new top (operation_of tag (term_at ws.old left) (term_at ws.old right)) }
+    requires parts_below { (left < top) × (right < top) }
+    ensures { Put ws.old ws.new top (operation_of operation (term_at ws.old left) (term_at ws.old right)) }
 {
     let a = nodes::marks(ws, left);
     let b = nodes::marks(ws, right);
     let parts = nodes::high(a) + 65536 * nodes::high(b);
-    if tag < 4 {
-        let value = computed(ws, tag, left, right);
-        let valued = nodes::is_valued(a) * nodes::is_valued(b);
-        let plain = nodes::is_plain(a) * nodes::is_plain(b);
-        let facts = joined(tag, valued, plain, a, b);
-        put(ws, top, parts as u32, value, facts);
-        return;
-    }
-    put(ws, top, parts as u32, 0, joined(tag, 0, 0, a, b));
-}
-
-// Puts the sum of two nodes at node top.
-pub fn put_sum(ws: &mut [u32], top: usize, left: usize, right: usize)
-    requires formed { Formed ws.old top }
-    requires space { Space ws.old top 1 }
-    requires left_lt_top { (left < top) × (right < top) }
-    ensures { Put ws.old ws.new top (sum (term_at ws.old left) (term_at ws.old right)) }
-{
-    put_pair(ws, top, 2, left, right);
-}
-
-// Puts the difference of two nodes at node top.
-pub fn put_difference(ws: &mut [u32], top: usize, left: usize, right: usize)
-    requires formed { Formed ws.old top }
-    requires space { Space ws.old top 1 }
-    requires left_lt_top { (left < top) × (right < top) }
-    ensures { Put ws.old ws.new top (difference (term_at ws.old left) (term_at ws.old right)) }
-{
-    put_pair(ws, top, 3, left, right);
-}
-
-// The facts of a shift, tag 5, by the marks of its part.
-fn shifted(a: u32) -> u32
-    ensures { (result ≡ 5 + 8 * (a / 8 % 2) + 64 * capped (low_of a / 64 + 1)) × (result < 65536) }
-{
-    5 + 8 * nodes::is_closed(a) + 64 * at_most_cap(nodes::size(a) + 1)
+    let closed = nodes::is_closed(a) & nodes::is_closed(b);
+    let plain = operation.is_linear() & nodes::is_plain(a) & nodes::is_plain(b);
+    let size = nodes::size(a) + nodes::size(b) + 1;
+    let value = computed(ws, operation, left, right, closed & plain);
+    put(
+        ws,
+        top,
+        parts as u32,
+        value,
+        facts(operation.tag(), closed, plain, size),
+    );
 }
 
 // Puts a node shifted right at node top.
 pub fn put_shift(ws: &mut [u32], top: usize, count: u32, part: usize)
     requires formed { Formed ws.old top }
     requires space { Space ws.old top 1 }
-    requires count_le_most_count { (count ≤ most_count) × (part < top) }
+    requires few { count ≤ most_count }
+    requires part_below { part < top }
     ensures { Put ws.old ws.new top (shift_of count (term_at ws.old part)) }
 {
     let a = nodes::marks(ws, part);
-    let parts = nodes::high(a) + 65536 * fields::wide(count);
-    put(ws, top, parts as u32, 0, shifted(a));
+    let parts = nodes::high(a) + 65536 * (count as usize);
+    let facts = facts(SHIFT, nodes::is_closed(a), false, nodes::size(a) + 1);
+    put(ws, top, parts as u32, 0, facts);
 }

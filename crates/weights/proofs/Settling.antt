@@ -8,6 +8,7 @@ use native.Mathlib.Omega.{arith}
 use native.Mathlib.Decide.{ℕ_discrete}
 use lib.ListN.{length, get_or, set, length-set}
 use lib.Dec.{eqb}
+use Rattle.std.specs.Prelude.{Option, Some, None}
 use borrow.Author.Tests.{eqb-true, eqb-false}
 use Rattle.model.specs.Word.{add_w}
 use Rattle.model.specs.Term.{Term, closed, eq_term}
@@ -15,7 +16,7 @@ use Rattle.model.specs.Linear.{coefficient_of}
 use Rattle.model.proofs.Terms.{same_term, term_same, and_left, and_right}
 use Rattle.model.proofs.Words.{◌≈◌}
 use Rattle.workspace.specs.Layout.{Same, area_words, hint_base, most_table_nodes}
-use Rattle.workspace.proofs.Frames.{same_refl, same_trans, set_before}
+use Rattle.workspace.proofs.Frames.{same_refl, same_trans}
 use Rattle.nodes.specs.Table.{place, value_at, valued_at, term_at, plain, Formed, Shaped}
 use Rattle.nodes.proofs.Table.{formed_less, marks_here}
 use Rattle.nodes.proofs.Facts.{no_value_zero, valued_at_lem}
@@ -97,7 +98,7 @@ settled_none {us} {k} e h = record {
 }
 
 -- us are the words before, ms those once a partner is looked for, vs those once the weight is made zero
-module _ {us ms vs : List ℕ} {k w j : ℕ} {b : Bool} (d : b ≡ weighs_at us k) (h : b ≡ true) (e : w ≡ value_at us k) (small : w < 2 ^ 32) (p : Partner us ms k j) (i : length ms ≡ length us) (s : vs ≡ set ms (place k + 1) 0) where
+module _ {us ms vs : List ℕ} {k w : ℕ} {r : Option ℕ} {b : Bool} (d : b ≡ weighs_at us k) (h : b ≡ true) (e : w ≡ value_at us k) (small : w < 2 ^ 32) (p : Partner us ms k r) (i : length ms ≡ length us) (s : vs ≡ set ms (place k + 1) 0) where
   weighs_here : weighs_at us k ≡ true
   weighs_here = sym d ∙ h
 
@@ -116,7 +117,7 @@ module _ {us ms vs : List ℕ} {k w j : ℕ} {b : Bool} (d : b ≡ weighs_at us 
         (ap length s ∙ simp length-set i)
         (omega (arith, t.shaped.fits))
 
-  pub settled_alone : j ≡ k → Settled us vs (suc k) k false
+  pub settled_alone : r ≡ None → Settled us vs (suc k) k false
   unfolding total
   settled_alone a = record {
     area = zero_area;
@@ -134,7 +135,7 @@ module _ {us ms vs : List ℕ} {k w j : ℕ} {b : Bool} (d : b ≡ weighs_at us 
       apart ws t g m l n true q false r = rw (opaque_coefficient (term_at ws k) (term_at ws m) (weighted_opaque t g m (omega arith) q), r)
       apart ws t g m l n true q true r =
           let x : term_at us m ≡ term_at us k = term_kept g t m (omega arith) ∙ sym (same_term (term_at ws k) (term_at ws m) r) ∙ sym (term_kept g t k (omega arith)) in
-          clash (p.alone a m l q) (rw x (term_same (term_at us k)))
+          clash ((rw a at p.found) m l q) (rw x (term_same (term_at us k)))
 
       itself : (ws : List ℕ) → opaque (term_at ws k) ≡ true → coefficient_of (term_at ws k) (term_at ws k) ≡ 1
       itself ws o = rw (opaque_coefficient (term_at ws k) (term_at ws k) o, term_same (term_at ws k))
@@ -148,12 +149,15 @@ module _ {us ms vs : List ℕ} {k w j : ℕ} {b : Bool} (d : b ≡ weighs_at us 
           (rw (← e) small)
           (weight_here us k weighs_here).0
 
-  module _ (n : j ≢ k) {x : ℕ} {xs : List ℕ} (f : x ≡ value_at vs j) (c : xs ≡ set vs (place j + 1) (add_w x w)) where
+  module _ {j : ℕ} (n : r ≡ Some j) {x : ℕ} {xs : List ℕ} (f : x ≡ value_at vs j) (c : xs ≡ set vs (place j + 1) (add_w x w)) where
+    twin : (j < k) × (eq_term (term_at us j) (term_at us k) ≡ true)
+    twin = rw n at p.found
+
     before : j < k
-    before = (p.paired n).0
+    before = twin.0
 
     same : {ws : List ℕ} (t : Formed ws (suc k)) (g : Loaded ws us (suc k) 0) → term_at ws j ≡ term_at ws k
-    same t g = sym (term_kept g t j (omega (arith, before))) ∙ same_term (term_at us j) (term_at us k) (p.paired n).1 ∙ term_kept g t k (omega arith)
+    same t g = sym (term_kept g t j (omega (arith, before))) ∙ same_term (term_at us j) (term_at us k) twin.1 ∙ term_kept g t k (omega arith)
 
     pair_opaque : {ws : List ℕ} (t : Formed ws (suc k)) (g : Loaded ws us (suc k) 0) → opaque (term_at ws j) ≡ true
     pair_opaque t g = rw (same t g) (weighted_opaque t g k (omega arith) weighs_here)
@@ -175,10 +179,10 @@ module _ {us ms vs : List ℕ} {k w j : ℕ} {b : Bool} (d : b ≡ weighs_at us 
             rw (← total_same ws us vs (of_term y) k (λ m l. other_word (place m + 1) (omega (arith, t.shaped.fits)) (omega arith)), ← same t g, ← e)
             (total_more ws vs xs (of_term y) j w (no_value_zero (formed_less (suc j) (omega (arith, before)) t) (pair_open t g)) (weight_own vs xs j (add_w x w) c (omega (arith, before, t.shaped.words, t.shaped.fits, (zero_loaded t g).long)) ∙ ap (λ z. add_w z w) f) (λ m d. weight_other vs xs j (add_w x w) c (place m + 1) (omega arith)) k before)
 
--- ---- the ways out of `settle`
-pub settled_start : (us : List ℕ) (n : ℕ) → Settled us us n n true
-settled_start us n = record { area = same_refl 0 area_words us; loaded = λ ws t g. g; agree = λ ws t g r x o. refl; differ = λ ws t g r. clash r refl }
+pub settle_shape : {us : List ℕ} {n : ℕ} → Settleable us n → Shaped us n
+settle_shape y = shaped_kept y.loaded y.formed
 
+-- ---- `settle`: one node more
 module _ {us vs : List ℕ} {n m : ℕ} {r : Bool} (a : Settled us vs n m r) where
   pub settleable_more : Settleable us n → m ≤ n → (k : ℕ) → suc k ≡ m → Settleable vs (suc k)
   settleable_more y h k e = record {
@@ -220,60 +224,6 @@ module _ {us vs : List ℕ} {n m : ℕ} {r : Bool} (a : Settled us vs n m r) whe
       go ws t g false c d f o = a.differ ws t g c
       go ws t g true c false f o = later ws t g c (b.differ ws (less ws t) (middle ws t g) f)
       go ws t g true c true f o = clash o (rw (c, f))
-
-  pub settled_all : m ≤ 0 → Settled us vs n 0 r
-  settled_all h = let e : m ≡ 0 = omega arith in subst (λ x. Settled us vs n x r) e a
-
-  pub settled_long : Settleable us n → length vs ≡ length us
-  settled_long y = (a.loaded y.table y.formed y.loaded).long ∙ sym y.loaded.long
-
--- what `hand_over` may read and write
-pub settle_room : {us : List ℕ} {n : ℕ} → Settleable us n → place n ≤ length us
-settle_room y = omega (arith, y.formed.shaped.words, y.formed.shaped.fits, y.loaded.long)
-
-pub settle_shape : {us : List ℕ} {n : ℕ} → Settleable us n → Shaped us n
-settle_shape y = shaped_kept y.loaded y.formed
-
--- ---- the ways out of `partner`
--- of the nodes from j up to k none has a weight and the term of node k
-pub record Searched (us : List ℕ) (k j : ℕ) : Type 0 where
-  pub below : j ≤ k
-  pub none : (i : ℕ) → j ≤ i → i < k → weighs_at us i ≡ true → eq_term (term_at us i) (term_at us k) ≡ false
-
-pub searched_start : (us : List ℕ) (k : ℕ) → Searched us k k
-searched_start us k = record { below = omega arith; none = λ i l h. absurd (omega arith) }
-
-module _ {us : List ℕ} {k j i : ℕ} (f : Searched us k j) (e : suc i ≡ j) where
-  searched_more : (weighs_at us i ≡ true → eq_term (term_at us i) (term_at us k) ≡ false) → Searched us k i
-  searched_more h = record { below = omega (arith, f.below); none = λ m l q. go m l q (ℕ_discrete m i) }
-    where
-      go : (m : ℕ) → i ≤ m → m < k → Dec (m ≡ i) → weighs_at us m ≡ true → eq_term (term_at us m) (term_at us k) ≡ false
-      go m l q (yes d) = rw d h
-      go m l q (no d) = f.none m (omega arith) q
-
-  pub searched_weightless : {b : Bool} → b ≡ weighs_at us i → b ≡ false → Searched us k i
-  searched_weightless d h = searched_more (λ w. clash (sym d ∙ h) w)
-
-  pub searched_other : {b : Bool} → b ≡ eq_term (term_at us i) (term_at us k) → b ≡ false → Searched us k i
-  searched_other d h = searched_more (λ w. sym d ∙ h)
-
-  pub partner_found : {b : Bool} → b ≡ eq_term (term_at us i) (term_at us k) → b ≡ true → Partner us us k i
-  partner_found d h = record { kept = same_refl 0 hint_base us; alone = λ r. absurd (omega (arith, f.below)); paired = λ r. (omega (arith, f.below), sym d ∙ h) }
-
-pub partner_none : {us : List ℕ} {k j : ℕ} → Searched us k j → j ≤ 0 → Partner us us k k
-partner_none {us} f h = record { kept = same_refl 0 hint_base us; alone = λ r i l w. f.none i (omega arith) l w; paired = λ r. absurd (r refl) }
-
--- the noted node has the term
-pub partner_noted : {us : List ℕ} {k r : ℕ} {b : Bool} → r < k → b ≡ eq_term (term_at us r) (term_at us k) → b ≡ true → Partner us us k r
-partner_noted {us} l d h = record { kept = same_refl 0 hint_base us; alone = λ r. absurd (omega arith); paired = λ r. (l, sym d ∙ h) }
-
--- what is found is noted
-pub partner_kept : {us vs : List ℕ} {k r : ℕ} → Partner us us k r → Same 0 hint_base us vs → Partner us vs k r
-partner_kept p s = record { kept = s; alone = p.alone; paired = p.paired }
-
--- a note is a hint
-pub noted_kept : (us : List ℕ) (at w : ℕ) {vs : List ℕ} → hint_base ≤ at → vs ≡ set us at w → Same 0 hint_base us vs
-noted_kept us at w h e = subst (Same 0 hint_base us) (sym e) (set_before us at w 0 hint_base h)
 
 -- ---- both forms reckoned by the table
 pub both_plain : (s t : Term) {p q : Bool} → p ≡ plain s → q ≡ plain t → (p && q) ≡ true → (plain s ≡ true) × (plain t ≡ true)

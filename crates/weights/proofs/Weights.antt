@@ -1,16 +1,14 @@
 -- Laws of weights: what the functions over the table give to the area. Assumes nothing.
 use mathlib.Core.Path.{◌≡◌, refl, sym, ap, subst, ◌∙◌}
-use mathlib.Core.Logic.{◌≢◌, ⊎_elim, ◌⊎◌}
+use mathlib.Core.Logic.{◌≢◌}
 use mathlib.Core.Bool.{Bool, true, false, ◌&&◌}
 use mathlib.Core.List.{List}
 use Prim.Native.Nat.{ℕ, zero, suc, ◌+◌, ◌-◌, ◌*◌, ◌/◌, ◌%◌, ◌^◌, ◌≤◌, ◌<◌, max}
-use native.Mathlib.Nat.{mul-le-mul}
 use native.Mathlib.Omega.{arith}
 use native.Mathlib.Decide.{dec_lt, ℕ_discrete}
 use lib.ListN.{length, get_or, set, length-set}
 use lib.Seq.{get_or-set_same, get_or-set_other}
 use lib.Dec.{eqb}
-use denote.Enum.Declared.{tag_of as variant, declared}
 use Rattle.model.specs.Word.{add_w, sub_w}
 use Rattle.model.specs.Term.{Term, constant, variable, sum, difference, mask, shift, closed}
 use Rattle.model.specs.Linear.{variable_bound}
@@ -19,8 +17,8 @@ use Rattle.model.proofs.Terms.{and_left, and_right}
 use Rattle.workspace.specs.Layout.{table_base, constant_word, area_words, hint_base}
 use Rattle.nodes.specs.Table.{place, parts_at, value_at, marks_at, valued_at, node_of_tag, view_of, term_at, plain, InOrder, Shaped, Formed}
 use Rattle.nodes.specs.declared.Node.{Node}
-use Rattle.nodes.specs.declared.Node.TheVariants.{Constant, Variable, Sum, Difference, Mask, Shift}
-use Rattle.nodes.specs.contracts.Node.{enum as node-enum}
+use Rattle.nodes.specs.declared.Node.TheVariants.{Constant, Variable, Pair, Shift}
+use Rattle.nodes.specs.declared.Operation.TheVariants.{Sum, Difference, Mask}
 use Rattle.nodes.proofs.Table.{formed_less, node_order, node_built, marks_here, term_viewed, shaped_viewed}
 use Rattle.nodes.proofs.Facts.{valued_at_lem, value_is_kept, no_value_zero}
 use Rattle.forms.specs.Area.{form_at, Comparable}
@@ -56,9 +54,6 @@ parts_difference a w x y v l m h =
     ∙ ap (λ z. z % 2 ^ 32) (let e : (a + s * y) + (d + y) * w ≡ (a + w * d) + (s + w) * y = omega arith in e)
     ∙ add_cong (a + w * d) v ((s + w) * y) (0 * y) h (mul_cong (s + w) 0 y (sub_plain 0 w l))
     ∙ ap (λ z. z % 2 ^ 32) (let e : v + 0 * y ≡ v = omega arith in e)
-
-pub product_fits : (a b : ℕ) → a < 2 ^ 32 → b < 2 ^ 32 → a * b < 2 ^ 64
-product_fits a b h k = let m : a * b ≤ 4294967295 * 4294967295 = mul-le-mul {n₁ = a} {m₁ = b} {n₂ = 4294967295} {m₂ = 4294967295} (omega arith) (omega arith) in omega arith
 
 -- ---- what the weights add
 pub total_same : (ws us vs : List ℕ) (e : Entry) (n : ℕ) → ((k : ℕ) → k < n → value_at vs k ≡ value_at us k) → total ws vs e n ≡ total ws us e n
@@ -98,7 +93,7 @@ by_tag (suc (suc (suc (suc (suc t))))) p v w h = refl
 
 constant_valued : {ws : List ℕ} {k c : ℕ} → Formed ws (suc k) → view_of ws k ≡ Constant c → valued_at ws k ≡ true
 unfolding closed plain
-constant_valued {ws} {k} t e = valued_at_lem (marks_here t.shaped) ∙ rw (node_built t refl e)
+constant_valued {ws} {k} t e = valued_at_lem (marks_here t.shaped) ∙ rw (node_built t.shaped (sym e))
 
 tag_open : {ws : List ℕ} {k : ℕ} → Formed ws (suc k) → valued_at ws k ≡ false → marks_at ws k % 8 ≢ 0
 unfolding view_of
@@ -238,14 +233,6 @@ module _ {ws us : List ℕ} {n m : ℕ} {only : Bool} {want : Entry → ℕ} (g 
           area_more constant_word (w * value_at us k % 2 ^ 32) (λ q. w * number_at q (term_at ws k)) (omega arith) (omega (arith, t.shaped.words, t.shaped.fits, g.loaded.long)) d (rw f (omega arith))
           (λ r l n. rw (s.words r l n) (omega arith)) (λ x l. rw (s.terms x l) (omega arith))
 
--- ---- the ways out of `give`
-module _ (us : List ℕ) (k w : ℕ) {b : Bool} {value x : ℕ} {vs : List ℕ} (h : b ≡ valued_at us k) (v : value ≡ value_at us k) where
-  pub given_closed : b ≡ true → x ≡ w * value % 2 ^ 32 → vs ≡ set us constant_word (add_w (get_or us constant_word 0) x) → vs ≡ given_to (valued_at us k) us k w
-  given_closed l p e = rw (← h, l, e, p, v)
-
-  pub given_open : b ≡ false → x ≡ add_w value w → vs ≡ set us (place k + 1) x → vs ≡ given_to (valued_at us k) us k w
-  given_open l p e = rw (← h, l, e, p, v)
-
 -- ---- node k, the last with a weight that is still to be given
 module _ {ws us : List ℕ} {n k : ℕ} {only : Bool} {want : Entry → ℕ} (h : k < n) (t : Formed ws n) (g : Weighed ws us n (suc k) only want) where
   here : Formed ws (suc k)
@@ -318,9 +305,6 @@ module _ {ws us : List ℕ} {n k : ℕ} {only : Bool} {want : Entry → ℕ} (h 
 allowed_parts : {only : Bool} {s t : Term} → max (variable_bound s) (variable_bound t) ≤ constant_word → (only ≡ true → (plain s && plain t) ≡ true) → Allowed only s × Allowed only t
 allowed_parts {only} {s} {t} b p = (record { bound = omega arith; plain_term = λ o. and_left (plain s) (plain t) (p o) }, record { bound = omega arith; plain_term = λ o. and_right (plain s) (plain t) (p o) })
 
-abbrev shape : Node → ℕ
-shape n = variant (declared node-enum) n
-
 module _ (us : List ℕ) (k : ℕ) {w : ℕ} (e : w ≡ value_at us k) where
   pub passed_none : w ≡ 0 → Passed us us (suc k) k
   passed_none z = record { weighed = λ ws n only want l t g. pass_left l t g (λ d. absurd (d (go ws n only want l t g (valued_at us k) refl))) }
@@ -333,55 +317,57 @@ module _ (us : List ℕ) (k : ℕ) {w : ℕ} (e : w ≡ value_at us k) where
     pub passed_valued : b ≡ true → Passed us us (suc k) k
     passed_valued o = record { weighed = λ ws n only want l t g. pass_left l t g (λ d. absurd (d (value_kept g.loaded t k l (sym (valued_kept g.loaded t k l) ∙ sym h ∙ o)))) }
 
-    module _ (o : b ≡ false) {node : Node} (v : node ≡ view_of us k) where
+    module _ (o : b ≡ false) where
       open_at : valued_at us k ≡ false
       open_at = sym h ∙ o
 
+      -- node k of the table, as `view` shows it
+      view_at : {node : Node} → node ≡ view_of us k → {ws : List ℕ} {n : ℕ} {only : Bool} {want : Entry → ℕ} → k < n → Formed ws n → Weighed ws us n (suc k) only want → node ≡ view_of ws k
+      view_at v l t g = v ∙ view_kept g.loaded t k l
+
       -- a constant holds a value
-      kept_as : (ws : List ℕ) (n : ℕ) (only : Bool) (want : Entry → ℕ) (l : k < n) (t : Formed ws n) (g : Weighed ws us n (suc k) only want) (m : Node) → node ≡ m → (shape m ≡ 0) ⊎ ((shape m ≡ 4) ⊎ (shape m ≡ 5)) → opaque (term_at ws k) ≡ true
-      kept_as ws n only want l t g (Constant c) a i = clash (open_here l t g open_at) (constant_valued (formed_less (suc k) l t) (sym (view_kept g.loaded t k l) ∙ sym v ∙ a))
-      kept_as ws n only want l t g (Variable x) a i = absurd (⊎_elim (λ r. omega arith) (⊎_elim (λ r. omega arith) (λ r. omega arith)) i)
-      kept_as ws n only want l t g (Sum x y) a i = absurd (⊎_elim (λ r. omega arith) (⊎_elim (λ r. omega arith) (λ r. omega arith)) i)
-      kept_as ws n only want l t g (Difference x y) a i = absurd (⊎_elim (λ r. omega arith) (⊎_elim (λ r. omega arith) (λ r. omega arith)) i)
-      kept_as ws n only want l t g (Mask x y) a i = rw (node_built (formed_less (suc k) l t) (v ∙ view_kept g.loaded t k l) a)
-      kept_as ws n only want l t g (Shift x y) a i = rw (node_built (formed_less (suc k) l t) (v ∙ view_kept g.loaded t k l) a)
+      pub passed_constant : {c : ℕ} → Constant c ≡ view_of us k → Passed us us (suc k) k
+      passed_constant v = record { weighed = λ ws n only want l t g. clash (open_here l t g open_at) (constant_valued (formed_less (suc k) l t) (sym (view_at v l t g))) }
 
-      pub passed_other : (shape node ≡ 0) ⊎ ((shape node ≡ 4) ⊎ (shape node ≡ 5)) → Passed us us (suc k) k
-      passed_other i = record { weighed = λ ws n only want l t g. pass_left l t g (λ d. kept_as ws n only want l t g node refl i) }
+      pub passed_mask : {x y : ℕ} → Pair Mask x y ≡ view_of us k → Passed us us (suc k) k
+      passed_mask v = record { weighed = λ ws n only want l t g. pass_left l t g (λ d. rw (node_built (formed_less (suc k) l t).shaped (view_at v l t g))) }
 
-    module _ (z : w ≢ 0) (small : w < 2 ^ 32) (o : b ≡ false) {node : Node} {vs : List ℕ} (v : node ≡ view_of us k) (s : vs ≡ set us (place k + 1) 0) where
+      pub passed_shift : {x y : ℕ} → Shift x y ≡ view_of us k → Passed us us (suc k) k
+      passed_shift v = record { weighed = λ ws n only want l t g. pass_left l t g (λ d. rw (node_built (formed_less (suc k) l t).shaped (view_at v l t g))) }
+
+    module _ (z : w ≢ 0) (small : w < 2 ^ 32) (o : b ≡ false) {vs : List ℕ} (s : vs ≡ set us (place k + 1) 0) where
       word_at : value_at us k < 2 ^ 32
       word_at = rw (← e) small
 
       module _ {ws : List ℕ} {n : ℕ} {only : Bool} {want : Entry → ℕ} (l : k < n) (t : Formed ws n) (g : Weighed ws us n (suc k) only want) where
-        view : node ≡ view_of ws k
-        view = v ∙ view_kept g.loaded t k l
+        view : {node : Node} → node ≡ view_of us k → node ≡ view_of ws k
+        view v = view_at o v l t g
 
-        formed : Formed ws (suc k)
-        formed = formed_less (suc k) l t
+        formed : Shaped ws (suc k)
+        formed = (formed_less (suc k) l t).shaped
 
         abbrev left_over : Entry → ℕ
-        left_over = rest l t g (open_at o v) word_at s
+        left_over = rest l t g (open_at o) word_at s
 
         taken : Weighed ws vs n k only left_over
-        taken = weight_taken l t g (open_at o v) word_at s
+        taken = weight_taken l t g (open_at o) word_at s
 
         allowed : Allowed only (term_at ws k)
-        allowed = bound_here l t g (open_at o v) (λ r. z (e ∙ r))
+        allowed = bound_here l t g (open_at o) (λ r. z (e ∙ r))
 
         given : (q : Entry) → Valid q → left_over q + w * number_at q (term_at ws k) ≈ want q
-        given q m = subst (λ x. left_over q + x * number_at q (term_at ws k) ≈ want q) (sym e) (rest_weight l t g (open_at o v) word_at s q m)
+        given q m = subst (λ x. left_over q + x * number_at q (term_at ws k) ≈ want q) (sym e) (rest_weight l t g (open_at o) word_at s q m)
 
-      pub passed_variable : {x p : ℕ} {xs : List ℕ} → node ≡ Variable x → p ≡ x → xs ≡ set vs p (add_w (get_or vs p 0) w) → Passed us xs (suc k) k
+      pub passed_variable : {x : ℕ} {xs : List ℕ} → Variable x ≡ view_of us k → xs ≡ set vs x (add_w (get_or vs x 0) w) → Passed us xs (suc k) k
       unfolding variable_bound
-      passed_variable {x} {p} {xs} a d f = record { weighed = go }
+      passed_variable {x} {xs} v f = record { weighed = go }
         where
           go : (ws : List ℕ) (n : ℕ) (only : Bool) (want : Entry → ℕ) → k < n → Formed ws n → Weighed ws us n (suc k) only want → Weighed ws xs n k only want
           go ws n only want l t g =
-              let q : term_at ws k ≡ variable x = node_built (formed l t g) (view l t g) a in
+              let q : term_at ws k ≡ variable x = node_built (formed l t g) (view l t g v) in
               let m : x < constant_word = (let y = rw q at (allowed l t g).bound in omega arith) in
               weighed_as
-              (area_more (taken l t g) x w (λ r. w * number_at r (term_at ws k)) (omega arith) (omega (arith, t.shaped.words, t.shaped.fits, (taken l t g).loaded.long)) (rw d at f)
+              (area_more (taken l t g) x w (λ r. w * number_at r (term_at ws k)) (omega arith) (omega (arith, t.shaped.words, t.shaped.fits, (taken l t g).loaded.long)) f
               (rw (q, variable_here x m) (omega arith))
               (λ r i c. rw (q, (single_variable x).words r i c) (omega arith))
               (λ r i. rw (q, (single_variable x).terms r i) (omega arith)))
@@ -397,37 +383,34 @@ module _ (us : List ℕ) (k : ℕ) {w : ℕ} (e : w ≡ value_at us k) where
         both {ws} {n} {only} {want} l t g o b m =
             weighed_as (give_more (give_more (taken l t g) i w t (omega arith) o.0 b.0 f) j y t (omega arith) o.1 b.1 c) want (λ q r. m q (given l t g q r))
 
-        pub passed_sum : node ≡ Sum i j → y ≡ w → Passed us zs (suc k) k
+        pub passed_sum : Pair Sum i j ≡ view_of us k → y ≡ w → Passed us zs (suc k) k
         unfolding variable_bound plain
-        passed_sum a d = record { weighed = go }
+        passed_sum v d = record { weighed = go }
           where
             go : (ws : List ℕ) (n : ℕ) (only : Bool) (want : Entry → ℕ) → k < n → Formed ws n → Weighed ws us n (suc k) only want → Weighed ws zs n k only want
             go ws n only want l t g =
-                let q : term_at ws k ≡ sum (term_at ws i) (term_at ws j) = node_built (formed l t g) (view l t g) a in
-                both l t g (node_order (formed l t g) (view l t g) a) (allowed_parts (rw q at (allowed l t g).bound) (λ o. rw q at ((allowed l t g).plain_term o)))
+                let q : term_at ws k ≡ sum (term_at ws i) (term_at ws j) = node_built (formed l t g) (view l t g v) in
+                both l t g (node_order (formed l t g) (view l t g v)) (allowed_parts (rw q at (allowed l t g).bound) (λ o. rw q at ((allowed l t g).plain_term o)))
                 (λ r m. rw d (parts_sum (left_over l t g r) w (number_at r (term_at ws i)) (number_at r (term_at ws j)) (want r) (rw (q, number_sum (term_at ws i) (term_at ws j) r) at m)))
 
-        pub passed_difference : node ≡ Difference i j → y ≡ sub_w 0 w → Passed us zs (suc k) k
+        pub passed_difference : Pair Difference i j ≡ view_of us k → y ≡ sub_w 0 w → Passed us zs (suc k) k
         unfolding variable_bound plain
-        passed_difference a d = record { weighed = go }
+        passed_difference v d = record { weighed = go }
           where
             go : (ws : List ℕ) (n : ℕ) (only : Bool) (want : Entry → ℕ) → k < n → Formed ws n → Weighed ws us n (suc k) only want → Weighed ws zs n k only want
             go ws n only want l t g =
-                let q : term_at ws k ≡ difference (term_at ws i) (term_at ws j) = node_built (formed l t g) (view l t g) a in
-                both l t g (node_order (formed l t g) (view l t g) a) (allowed_parts (rw q at (allowed l t g).bound) (λ o. rw q at ((allowed l t g).plain_term o)))
+                let q : term_at ws k ≡ difference (term_at ws i) (term_at ws j) = node_built (formed l t g) (view l t g v) in
+                both l t g (node_order (formed l t g) (view l t g v)) (allowed_parts (rw q at (allowed l t g).bound) (λ o. rw q at ((allowed l t g).plain_term o)))
                 (λ r m. rw d (parts_difference (left_over l t g r) w (number_at r (term_at ws i)) (number_at r (term_at ws j)) (want r) small (number_word r (term_at ws j)) (rw (q, number_difference (term_at ws i) (term_at ws j) r) at m)))
 
 -- what `pass` may read and write
 pub words_enough : {us : List ℕ} {m : ℕ} → Weighable us m → place m ≤ length us
 words_enough y = omega (arith, y.inside, y.formed.shaped.words, y.formed.shaped.fits, y.weighed.loaded.long)
 
-pub order_here : {us : List ℕ} {k : ℕ} → Weighable us (suc k) → {n m : Node} → n ≡ view_of us k → n ≡ m → InOrder k m
-order_here {us} {k} y v a = node_order (formed_less (suc k) y.inside y.formed) (v ∙ view_kept y.weighed.loaded y.formed k y.inside) a
+pub order_here : {us : List ℕ} {k : ℕ} → Weighable us (suc k) → {n : Node} → n ≡ view_of us k → InOrder k n
+order_here {us} {k} y v = node_order (formed_less (suc k) y.inside y.formed).shaped (v ∙ view_kept y.weighed.loaded y.formed k y.inside)
 
--- ---- the ways out of `spread`
-pub passed_start : (us : List ℕ) (n : ℕ) → Passed us us n n
-passed_start us n = record { weighed = λ ws nodes only want l t g. g }
-
+-- ---- `spread`: one node more
 module _ {us vs : List ℕ} {n m : ℕ} (a : Passed us vs n m) where
   pub weighable_more : Weighable us n → m ≤ n → (k : ℕ) → suc k ≡ m → Weighable vs (suc k)
   weighable_more y h k e = record {
@@ -444,12 +427,6 @@ module _ {us vs : List ℕ} {n m : ℕ} (a : Passed us vs n m) where
   passed_more k h e b = record {
     weighed = λ ws nodes only want l t g. b.weighed ws nodes only want (omega arith) t (subst (λ x. Weighed ws vs nodes x only want) (sym e) (a.weighed ws nodes only want l t g));
   }
-
-  pub passed_long : Weighable us n → length vs ≡ length us
-  passed_long y = (a.weighed y.table y.nodes y.only y.want y.inside y.formed y.weighed).loaded.long ∙ sym y.weighed.loaded.long
-
-  pub passed_all : m ≤ 0 → Passed us vs n 0
-  passed_all h = let e : m ≡ 0 = omega arith in subst (λ x. Passed us vs n x) e a
 
 -- ---- reckoned by the table: the form of node i once, that of node j 2^32 - 1 times
 abbrev wanted : Term → Term → Entry → ℕ

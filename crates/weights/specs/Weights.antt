@@ -1,6 +1,6 @@
 -- Weights: while forms are compared over the table, the value word of a node that holds no value holds how often its term's form is still to
 -- be added. Assumes nothing.
-use Rattle.std.specs.Prelude.{◌≡◌, ◌≢◌, Bool, true, false, not, ◌&&◌, List, ℕ, zero, suc, ◌+◌, ◌-◌, ◌*◌, ◌%◌, ◌^◌, ◌≤◌, ◌<◌, length, get_or, set, eqb}
+use Rattle.std.specs.Prelude.{◌≡◌, ◌≢◌, Bool, true, false, not, ◌&&◌, List, ℕ, zero, suc, ◌+◌, ◌-◌, ◌*◌, ◌%◌, ◌^◌, ◌≤◌, ◌<◌, length, get_or, set, eqb, Option, MatchOption}
 use Rattle.model.specs.Word.{add_w, sub_w}
 use Rattle.model.specs.Term.{Term, eq_term}
 use Rattle.model.specs.Linear.{coefficient_of, variable_bound}
@@ -63,11 +63,10 @@ pub record Passed (us vs : List ℕ) (n m : ℕ) : Type 0 where
 abbrev pub weighs_at : List ℕ → ℕ → Bool
 weighs_at us k = not (eqb (value_at us k) 0) && not (valued_at us k)
 
--- a node before k with the term of node k, or k, if none with a weight has it; of the words only a hint is changed
-pub record Partner (us vs : List ℕ) (k r : ℕ) : Type 0 where
+-- a node before k with the term of node k, or none, if none with a weight has it; of the words only a hint is changed
+pub record Partner (us vs : List ℕ) (k : ℕ) (r : Option ℕ) : Type 0 where
   pub kept : Same 0 hint_base us vs
-  pub alone : r ≡ k → (j : ℕ) → j < k → weighs_at us j ≡ true → eq_term (term_at us j) (term_at us k) ≡ false
-  pub paired : r ≢ k → (r < k) × (eq_term (term_at us r) (term_at us k) ≡ true)
+  pub found : MatchOption r ((j : ℕ) → j < k → weighs_at us j ≡ true → eq_term (term_at us j) (term_at us k) ≡ false) (λ j. (j < k) × (eq_term (term_at us j) (term_at us k) ≡ true))
 
 -- us are the words of some table of n nodes, of which masked and shifted terms have weights
 pub record Settleable (us : List ℕ) (n : ℕ) : Type 0 where

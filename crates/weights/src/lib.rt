@@ -9,25 +9,8 @@ ghost use Rattle.nodes.specs.Table.{place, valued_at, term_at, Shaped};
 ghost use Rattle.forms.specs.Area.{Comparable};
 ghost use Rattle.weights.specs.Weights.{given_to, weighs_at, Weighable, Passed, Partner, Settleable, Settled, Spread};
 
-use nodes::Node;
+use nodes::{Node, Operation};
 use workspace::{CONSTANT, NOTES};
-
-// The product modulo 2^32.
-fn product(a: u32, b: u32) -> u32
-    ensures { result ≡ a * b % 2 ^ 32 }
-{
-    ((a as u64) * (b as u64) % 4294967296) as u32
-}
-
-// The larger of two numbers.
-pub fn larger(a: usize, b: usize) -> usize
-    ensures { result ≡ max a b }
-{
-    if a < b {
-        return b;
-    }
-    a
-}
 
 // Adds w times the linear form of node k's term: to the constant where the node holds a value, else to the node's weight.
 fn give(ws: &mut [u32], k: usize, w: u32)
@@ -36,7 +19,7 @@ fn give(ws: &mut [u32], k: usize, w: u32)
 {
     let value = nodes::value(ws, k);
     if nodes::holds_value(ws, k) {
-        forms::change(ws, CONSTANT, product(w, value), false);
+        forms::change(ws, CONSTANT, w.wrapping_mul(value), false);
     } else {
         nodes::set_value(ws, k, fields::add(value, w));
     }
@@ -48,28 +31,29 @@ fn pass(ws: &mut [u32], k: usize)
     ensures { Passed ws.old ws.new (suc k) k }
 {
     let w = nodes::value(ws, k);
-    if w == 0 {
+    if w == 0 || nodes::holds_value(ws, k) {
         return;
     }
-    if nodes::holds_value(ws, k) {
-        return;
-    }
-    match nodes::node_at(ws, k) {
+    match nodes::view(ws, k) {
         Node::Variable(v) => {
             nodes::set_value(ws, k, 0);
-            forms::change(ws, fields::wide(v), w, false);
+            forms::change(ws, v as usize, w, false);
         }
-        Node::Sum(l, r) => {
-            nodes::set_value(ws, k, 0);
-            give(ws, l, w);
-            give(ws, r, w);
-        }
-        Node::Difference(l, r) => {
-            nodes::set_value(ws, k, 0);
-            give(ws, l, w);
-            give(ws, r, fields::sub(0, w));
-        }
-        _ => {}
+        Node::Pair(operation, left, right) => match operation {
+            Operation::Sum => {
+                nodes::set_value(ws, k, 0);
+                give(ws, left, w);
+                give(ws, right, w);
+            }
+            Operation::Difference => {
+                nodes::set_value(ws, k, 0);
+                give(ws, left, w);
+                give(ws, right, fields::sub(0, w));
+            }
+            Operation::Mask => {}
+        },
+        Node::Constant(_) => {}
+        Node::Shift(_, _) => {}
     }
 }
 
@@ -78,9 +62,7 @@ fn spread(ws: &mut [u32], nodes: usize)
     requires { Weighable ws.old nodes }
     ensures { Passed ws.old ws.new nodes 0 }
 {
-    let mut k = nodes;
-    while 0 < k {
-        k -= 1;
+    for k in (0..nodes).rev() {
         pass(ws, k);
     }
 }
@@ -114,16 +96,16 @@ fn noted(ws: &[u32], k: usize) -> usize
 {
     let two = ws[NOTES + k / 2];
     if k % 2 == 0 {
-        fields::wide(two % 65536)
+        nodes::low(two) as usize
     } else {
-        fields::wide(two / 65536)
+        nodes::high(two)
     }
 }
 
 // Notes that node k may have the term of node j.
 fn note(ws: &mut [u32], k: usize, j: usize)
     requires shaped { Shaped ws.old (suc k) }
-    requires j_lt_k { j < k }
+    requires before { j < k }
     ensures { Same 0 hint_base ws.old ws.new }
 {
     let at = NOTES + k / 2;
@@ -135,40 +117,32 @@ fn note(ws: &mut [u32], k: usize, j: usize)
     }
 }
 
-// The last node before k that has a weight and the term of node k; k, if there is none. Equal terms need not know of each other by twins.
-fn searched(ws: &[u32], k: usize) -> usize
+// The last node before k that has a weight and the term of node k, if there is one. Equal terms need not know of each other by twins.
+fn searched(ws: &[u32], k: usize) -> Option<usize>
     requires { Shaped ws.now (suc k) }
     ensures { Partner ws.now ws.now k result }
 {
-    let mut j = k;
-    while 0 < j {
-        j -= 1;
-        if weighs(ws, j) {
-            if term_walks::equal(ws, j, k) {
-                return j;
-            }
+    for j in (0..k).rev() {
+        if weighs(ws, j) && term_walks::equal(ws, j, k) {
+            return Some(j);
         }
     }
-    k
+    None
 }
 
-// A node before k that has the term of node k, the noted one if it has it; k, if none with a weight has it. What is found is noted, so that
+// A node before k that has the term of node k, the noted one if it has it; none, if none with a weight has it. What is found is noted, so that
 // each node is searched for once, however often forms are compared.
-fn partner(ws: &mut [u32], k: usize) -> usize
+fn partner(ws: &mut [u32], k: usize) -> Option<usize>
     requires { Shaped ws.old (suc k) }
     ensures { Partner ws.old ws.new k result }
 {
     let known = noted(ws, k);
-    if known < k {
-        if term_walks::equal(ws, known, k) {
-            return known;
-        }
+    if known < k && term_walks::equal(ws, known, k) {
+        return Some(known);
     }
-    let found = searched(ws, k);
-    if found < k {
-        note(ws, k, found);
-    }
-    found
+    let found = searched(ws, k)?;
+    note(ws, k, found);
+    Some(found)
 }
 
 // Adds the weight of node `last` to that of an earlier node with its term; false, if there is none. Its own weight is zero afterwards.
@@ -180,13 +154,15 @@ fn hand_over(ws: &mut [u32], last: usize) -> bool
         return true;
     }
     let w = nodes::value(ws, last);
-    let j = partner(ws, last);
+    let earlier = partner(ws, last);
     nodes::set_value(ws, last, 0);
-    if j == last {
-        return false;
+    match earlier {
+        Some(j) => {
+            nodes::set_value(ws, j, fields::add(nodes::value(ws, j), w));
+            true
+        }
+        None => false,
     }
-    nodes::set_value(ws, j, fields::add(nodes::value(ws, j), w));
-    true
 }
 
 // Whether the weights that are left come to zero for each term, from the last of the first nodes on; they are all zero afterwards.
@@ -195,11 +171,8 @@ pub fn settle(ws: &mut [u32], nodes: usize) -> bool
     ensures { Settled ws.old ws.new nodes 0 result }
 {
     let mut zero = true;
-    let mut k = nodes;
-    while 0 < k {
-        k -= 1;
-        let handed = hand_over(ws, k);
-        zero = zero & handed;
+    for k in (0..nodes).rev() {
+        zero &= hand_over(ws, k);
     }
     zero
 }

@@ -36,9 +36,5 @@ pub const NOTES: usize = HINTS - 1968;
 pub fn clear(words: &mut [u32])
     ensures { words.new ≡ replicate (length words.old) 0 }
 {
-    let mut i = 0;
-    while i < words.len() {
-        words[i] = 0;
-        i += 1;
-    }
+    words.fill(0);
 }

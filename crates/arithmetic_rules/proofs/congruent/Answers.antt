@@ -1,20 +1,30 @@
-use Rattle.arithmetic_rules.proofs.ArithmeticLaws.{not_congruent, pairs_fit, single_fits}
-use Rattle.claims.proofs.PlanLaws.{congruent_told, formed_at, no_sides, sides_told}
 use Rattle.model.specs.Rule.{premises}
+use Rattle.model_laws.proofs.Steps.{goes_on, stops}
+use native.Mathlib.Omega.{arith}
+use Rattle.claims.proofs.PlanLaws.{fits_one, fits_two, formed_at, misfits, stays}
 use Rattle.arithmetic_rules.proofs.congruent.Goals as goal
 
-pub returns-in_default : goal.returns-in_default
+pub returns-in_err-left : goal.returns-in_err-left
 unfolding premises
-returns-in_default c = no_sides _ c.requires.formed (sides_told c.sides.ensures c.in_default.is) c.unfit.ensures
+returns-in_err-left c = misfits (stays c.requires.formed) c.from_residual.ensures.0 (λ policy g _. stops _ (c.in_err-left.ensures.is _))
 
 pub same_operation-requires : goal.same_operation-requires
-same_operation-requires c = let j = (sides_told c.sides.ensures c.in-Nodes.is).below _ c.requires.claim_below in record { formed = formed_at c.requires.formed j.0; formed_2 = formed_at c.requires.formed j.1 }
+same_operation-requires c = let j = c.in_ok-left.ensures.below _ c.requires.claim_below in record { left_formed = formed_at c.requires.formed j.0; right_formed = formed_at c.requires.formed j.1 }
+
+pub returns-in_err-congruence : goal.returns-in_err-congruence
+unfolding premises
+returns-in_err-congruence c = misfits (stays c.requires.formed) c.from_residual-in_err-congruence.ensures.0 (λ policy g _. goes_on _ (c.in_ok-left.ensures.is _) c.in_err-congruence.ensures.is)
 
 pub returns-in-Pairs : goal.returns-in-Pairs
-returns-in-Pairs c = pairs_fit c.requires.formed c.requires.claim_below (sides_told c.sides.ensures c.in-Nodes.is) (congruent_told c.same_operation.ensures c.in-Pairs.is) c.compared.ensures c.compared-in-Pairs.ensures c.two.ensures
+unfolding premises
+returns-in-Pairs c =
+    let j = c.in_ok-left.ensures.below _ c.requires.claim_below in
+    let k = rw c.in-Pairs.is at c.in_ok-congruence.ensures.below in
+    fits_two (stays c.requires.formed) c.new.ensures (omega arith) c.new-in-Pairs.ensures (omega arith) c.two.ensures (λ policy g _. goes_on _ (c.in_ok-left.ensures.is _) (rw c.in-Pairs.is at c.in_ok-congruence.ensures.is))
 
 pub returns-in-Single : goal.returns-in-Single
-returns-in-Single c = single_fits c.requires.formed c.requires.claim_below (sides_told c.sides.ensures c.in-Nodes.is) (congruent_told c.same_operation.ensures c.in-Single.is) c.compared-in-Single.ensures c.one.ensures
-
-pub returns-in-Misfit : goal.returns-in-Misfit
-returns-in-Misfit c = not_congruent c.requires.formed c.requires.claim_below (sides_told c.sides.ensures c.in-Nodes.is) (congruent_told c.same_operation.ensures c.in-Misfit.is) c.unfit-in-Misfit.ensures
+unfolding premises
+returns-in-Single c =
+    let j = c.in_ok-left.ensures.below _ c.requires.claim_below in
+    let k = rw c.in-Single.is at c.in_ok-congruence.ensures.below in
+    fits_one (stays c.requires.formed) c.new-in-Single.ensures (omega arith) c.one.ensures (λ policy g _. goes_on _ (c.in_ok-left.ensures.is _) (rw c.in-Single.is at c.in_ok-congruence.ensures.is))

@@ -1,19 +1,15 @@
-use Rattle.model_laws.proofs.Steps.{failed}
-use Rattle.claims.proofs.PlanLaws.{formed_at, no_parts, no_sides, passes_test, sides_told}
 use Rattle.model.specs.Rule.{premises}
+use Rattle.model_laws.proofs.Steps.{goes_on, stops}
+use Rattle.claims.proofs.PlanLaws.{fits_if, formed_at, misfits, stays}
 use Rattle.arithmetic_rules.proofs.from_zero.Goals as goal
 
-pub returns-in_default : goal.returns-in_default
+pub returns-in_err-zero : goal.returns-in_err-zero
 unfolding premises
-returns-in_default c = no_sides _ c.requires.formed (sides_told c.sides.ensures c.in_default.is) c.unfit.ensures
+returns-in_err-zero c = misfits (stays c.requires.formed) c.from_residual.ensures.0 (λ policy g _. stops _ (c.in_err-zero.ensures.is _))
 
 pub is_constant-requires : goal.is_constant-requires
-is_constant-requires c = formed_at c.requires.formed ((sides_told c.sides.ensures c.in-Nodes.is).below _ c.requires.claim_below).0
+is_constant-requires c = formed_at c.requires.formed (c.in_ok-zero.ensures.below _ c.requires.claim_below).0
 
-pub returns-then-is_constant : goal.returns-then-is_constant
+pub returns : goal.returns
 unfolding premises
-returns-then-is_constant c = passes_test _ c.requires.formed (sides_told c.sides.ensures c.in-Nodes.is) c.is_constant.ensures c.if-is_constant.true c.none.ensures
-
-pub returns-else-is_constant : goal.returns-else-is_constant
-unfolding premises
-returns-else-is_constant c = no_parts _ _ c.requires.formed (sides_told c.sides.ensures c.in-Nodes.is) (failed _ c.is_constant.ensures c.if-is_constant.false) c.unfit-else-is_constant.ensures
+returns c = fits_if _ (stays c.requires.formed) c.none_if.ensures.fits c.none_if.ensures.top (λ policy g _. goes_on _ (c.in_ok-zero.ensures.is _) (rw c.is_constant.ensures))

@@ -1,28 +1,47 @@
-use Rattle.arithmetic_rules.proofs.ArithmeticLaws.{differences_fits, sums_fits}
-use Rattle.claims.proofs.PlanLaws.{formed_at, no_more_parts, no_parts, no_sides, operands_told, sides_told}
+use Rattle.model_laws.proofs.Steps.{goes_on, stops}
+use Rattle.std.proofs.Common.{refl}
+use native.Mathlib.Omega.{arith}
+use Rattle.claims.proofs.PlanLaws.{fits_three, formed_at, misfits, stays}
 use Rattle.arithmetic_rules.specs.Monotone.{monotone_premises}
+use Rattle.arithmetic_rules.proofs.ArithmeticLaws.{sum_is}
 use Rattle.arithmetic_rules.proofs.monotone.Goals as goal
 
-pub returns-in_default : goal.returns-in_default
+pub returns-in_err-left : goal.returns-in_err-left
 unfolding monotone_premises
-returns-in_default c = no_sides _ c.requires.formed (sides_told c.sides.ensures c.in_default.is) c.unfit.ensures
+returns-in_err-left c = misfits (stays c.requires.formed) c.from_residual.ensures.0 (λ policy g _. stops _ (c.in_err-left.ensures.is _))
 
 pub operands-requires : goal.operands-requires
-operands-requires c = formed_at c.requires.formed ((sides_told c.sides.ensures c.in-Nodes.is).below _ c.requires.claim_below).0
+operands-requires c = formed_at c.requires.formed (c.in_ok-left.ensures.below _ c.requires.claim_below).0
 
-pub returns-in_default-operands : goal.returns-in_default-operands
+pub returns-in_err-a : goal.returns-in_err-a
 unfolding monotone_premises
-returns-in_default-operands c = no_parts _ _ c.requires.formed (sides_told c.sides.ensures c.in-Nodes.is) (operands_told c.operands.ensures c.in_default-operands.is).is c.unfit-in_default-operands.ensures
+returns-in_err-a c = misfits (stays c.requires.formed) c.from_residual-in_err-a.ensures.0 (λ policy g _. goes_on _ (c.in_ok-left.ensures.is _) (stops _ c.in_err-a.ensures.is))
 
 pub operands-requires-2 : goal.operands-requires-2
-operands-requires-2 c = formed_at c.requires.formed ((sides_told c.sides.ensures c.in-Nodes.is).below _ c.requires.claim_below).1
+operands-requires-2 c = formed_at c.requires.formed (c.in_ok-left.ensures.below _ c.requires.claim_below).1
 
-pub returns-in_default-operands-2 : goal.returns-in_default-operands-2
+pub returns-in_err-c : goal.returns-in_err-c
 unfolding monotone_premises
-returns-in_default-operands-2 c = no_more_parts _ _ _ c.requires.formed (sides_told c.sides.ensures c.in-Nodes.is) (operands_told c.operands.ensures c.in-Nodes-operands.is).is (operands_told c.operands-2.ensures c.in_default-operands-2.is).is c.unfit-in_default-operands-2.ensures
+returns-in_err-c c = misfits (stays c.requires.formed) c.from_residual-in_err-c.ensures.0 (λ policy g _. goes_on _ (c.in_ok-left.ensures.is _) (goes_on _ c.in_ok-a.ensures.is (stops _ c.in_err-c.ensures.is)))
 
 pub returns-in-Sum : goal.returns-in-Sum
-returns-in-Sum c = sums_fits c.requires.formed c.requires.claim_below (sides_told c.sides.ensures c.in-Nodes.is) (operands_told c.operands.ensures c.in-Nodes-operands.is) (operands_told c.operands-2.ensures c.in-Nodes-operands-2.is) c.compared-first.ensures c.in-Sum.is c.compared.ensures c.compared-in-Sum.ensures c.three.ensures
+unfolding monotone_premises
+returns-in-Sum c =
+    let j = c.in_ok-left.ensures.below _ c.requires.claim_below in
+    let k = c.in_ok-a.ensures.below in
+    let m = c.in_ok-c.ensures.below in
+    fits_three (stays c.requires.formed) c.new-first.ensures (omega arith) c.new.ensures (omega arith) c.new-in-Sum.ensures (omega arith) c.three.ensures
+    (λ policy g _. goes_on _ (c.in_ok-left.ensures.is _) (goes_on _ c.in_ok-a.ensures.is (goes_on _ c.in_ok-c.ensures.is (rw (c.in-Sum.is, sum_is _ (rw c.in-Sum.is at c.in_ok-c.ensures.is))))))
 
 pub returns-in-Difference : goal.returns-in-Difference
-returns-in-Difference c = differences_fits c.requires.formed c.requires.claim_below (sides_told c.sides.ensures c.in-Nodes.is) (operands_told c.operands.ensures c.in-Nodes-operands.is) (operands_told c.operands-2.ensures c.in-Nodes-operands-2.is) c.compared-first.ensures c.in-Difference.is c.compared-in-Difference.ensures c.compared-in-Difference-2.ensures c.three-in-Difference.ensures
+unfolding monotone_premises
+returns-in-Difference c =
+    let j = c.in_ok-left.ensures.below _ c.requires.claim_below in
+    let k = c.in_ok-a.ensures.below in
+    let m = c.in_ok-c.ensures.below in
+    fits_three (stays c.requires.formed) c.new-first.ensures (omega arith) c.new-in-Difference.ensures (omega arith) c.new-in-Difference-2.ensures (omega arith) c.three-in-Difference.ensures
+    (λ policy g _. goes_on _ (c.in_ok-left.ensures.is _) (goes_on _ c.in_ok-a.ensures.is (goes_on _ c.in_ok-c.ensures.is (rw c.in-Difference.is))))
+
+pub returns-in-Mask : goal.returns-in-Mask
+unfolding monotone_premises
+returns-in-Mask c = misfits (stays c.requires.formed) refl (λ policy g _. goes_on _ (c.in_ok-left.ensures.is _) (goes_on _ c.in_ok-a.ensures.is (goes_on _ c.in_ok-c.ensures.is (rw c.in-Mask.is))))

@@ -1,35 +1,45 @@
+use Rattle.model.specs.Rule.{premises, sum_of}
+use Rattle.model_laws.proofs.Steps.{check_fails, check_passes, goes_on, stops}
+use Rattle.std.proofs.Common.{refl, sym, ◌∙◌, ◌<◌}
 use native.Mathlib.Omega.{arith}
-use mathlib.Core.Path.{refl}
-use Rattle.model_laws.proofs.Steps.{failed}
-use Rattle.claims.proofs.PlanLaws.{formed_at, no_more_parts, no_parts, no_sides, operands_told, put_asks_parts, sides_told}
-use Rattle.arithmetic_rules.proofs.ArithmeticLaws.{no_overflow_fits}
-use Rattle.model.specs.Rule.{premises}
+use Rattle.claims.proofs.PlanLaws.{fits_one, formed_at, kept_term, misfits, put_asks_parts, stays, two_put}
 use Rattle.nodes.proofs.Table.{part}
 use Rattle.arithmetic_rules.proofs.no_overflow.Goals as goal
 
-pub returns-in_default : goal.returns-in_default
-unfolding premises
-returns-in_default c = no_sides _ c.requires.formed (sides_told c.sides.ensures c.in_default.is) c.unfit.ensures
+pub returns-in_err-a : goal.returns-in_err-a
+unfolding premises sum_of
+returns-in_err-a c = misfits (stays c.requires.formed) c.from_residual.ensures.0 (λ policy g _. stops _ (c.in_err-a.ensures.is _))
 
 pub operands-requires : goal.operands-requires
-operands-requires c = formed_at c.requires.formed ((sides_told c.sides.ensures c.in-Nodes.is).below _ c.requires.claim_below).1
+operands-requires c = formed_at c.requires.formed (c.in_ok-a.ensures.below _ c.requires.claim_below).1
 
-pub returns-in_default-operands : goal.returns-in_default-operands
-unfolding premises
-returns-in_default-operands c = no_parts _ _ c.requires.formed (sides_told c.sides.ensures c.in-Nodes.is) (operands_told c.operands.ensures c.in_default-operands.is).is c.unfit-in_default-operands.ensures
+pub returns-in_err-p : goal.returns-in_err-p
+unfolding premises sum_of
+returns-in_err-p c = misfits (stays c.requires.formed) c.from_residual-in_err-p.ensures.0 (λ policy g _. goes_on _ (c.in_ok-a.ensures.is _) (stops _ c.in_err-p.ensures.is))
 
 pub same-requires : goal.same-requires
-same-requires c = let j = (sides_told c.sides.ensures c.in-Nodes.is).below _ c.requires.claim_below in record { formed = formed_at c.requires.formed j.0; formed_2 = part (formed_at c.requires.formed j.1) (operands_told c.operands.ensures c.in-Nodes-operands.is).below.0 }
+same-requires c =
+    let j = c.in_ok-a.ensures.below _ c.requires.claim_below in
+    record { first_formed = formed_at c.requires.formed j.0; second_formed = part (formed_at c.requires.formed j.1) c.in_ok-p.ensures.below.0 }
 
-pub put_difference-requires : goal.put_difference-requires
-put_difference-requires c = let h = put_asks_parts c.requires.space c.put_constant.ensures c.put_constant.auto.ws _ _ (omega arith) (omega (arith, (operands_told c.operands.ensures c.in-Nodes-operands.is).below.1, ((sides_told c.sides.ensures c.in-Nodes.is).below _ c.requires.claim_below).1)) in record { formed = h.0; space = h.1.0; left_lt_top = h.1.1 }
+pub returns-then-not-same : goal.returns-then-not-same
+unfolding premises sum_of
+returns-then-not-same c = misfits (stays c.requires.formed) refl (λ policy g _. goes_on _ (c.in_ok-a.ensures.is _) (goes_on _ c.in_ok-p.ensures.is (check_fails _ _ (sym c.same.ensures ∙ c.if-not-same.true))))
 
-pub overflow_add-top-then-same-2 : goal.overflow_add-top-then-same-2
-overflow_add-top-then-same-2 c = omega (arith, c.requires.space.fits)
+pub put_pair-requires : goal.put_pair-requires
+put_pair-requires c =
+    let j = c.in_ok-a.ensures.below _ c.requires.claim_below in
+    let h = put_asks_parts c.requires.space c.put_constant.ensures c.put_constant.auto.ws _ _ (omega arith) (omega (arith, c.in_ok-p.ensures.below.1, j.1)) in
+    record { formed = h.0; space = h.1.0; parts_below = h.1.1 }
 
-pub returns-then-same : goal.returns-then-same
-returns-then-same c = no_overflow_fits c.requires.claim_below (sides_told c.sides.ensures c.in-Nodes.is) c.put_constant.ensures (operands_told c.operands.ensures c.in-Nodes-operands.is) c.same.ensures c.if-same.true c.put_difference.ensures refl c.compared.ensures c.one.ensures
-
-pub returns-else-same : goal.returns-else-same
-unfolding premises
-returns-else-same c = no_more_parts _ _ _ c.requires.formed (sides_told c.sides.ensures c.in-Nodes.is) (operands_told c.operands.ensures c.in-Nodes-operands.is).is (failed _ c.same.ensures c.if-same.false) c.unfit-else-same.ensures
+pub returns : goal.returns
+unfolding premises sum_of
+returns c =
+    let j = c.in_ok-a.ensures.below _ c.requires.claim_below in
+    let below : c.in_ok-p.b < c.args.top = omega (arith, c.in_ok-p.ensures.below.1) in
+    let m = two_put c.put_constant.ensures c.put_pair.ensures in
+    fits_one m c.new.ensures (omega arith) c.one.ensures
+    (λ policy g _.
+    goes_on _ (c.in_ok-a.ensures.is _)
+    (goes_on _ c.in_ok-p.ensures.is
+    (check_passes _ _ (sym c.same.ensures ∙ c.if-not-same.false) (rw (kept_term m.kept j.0, c.put_pair.ensures.is, c.put_constant.ensures.is, kept_term c.put_constant.ensures.kept below)))))

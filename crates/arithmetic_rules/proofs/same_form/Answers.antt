@@ -1,17 +1,18 @@
-use Rattle.arithmetic_rules.proofs.ArithmeticLaws.{comparable, linear_differs, linear_fits}
-use Rattle.claims.proofs.PlanLaws.{no_sides, sides_told}
 use Rattle.model.specs.Rule.{premises}
+use Rattle.model_laws.proofs.Steps.{goes_on, stops}
+use Rattle.claims.proofs.PlanLaws.{fits_if, misfits, stays, stays_hinted}
+use Rattle.arithmetic_rules.proofs.ArithmeticLaws.{comparable}
 use Rattle.arithmetic_rules.proofs.same_form.Goals as goal
 
-pub returns-in_default : goal.returns-in_default
+pub returns-in_err-a : goal.returns-in_err-a
 unfolding premises
-returns-in_default c = no_sides _ c.requires.formed (sides_told c.sides.ensures c.in_default.is) c.unfit.ensures
+returns-in_err-a c = misfits (stays c.requires.formed) c.from_residual.ensures.0 (λ policy g _. stops _ (c.in_err-a.ensures.is _))
 
-pub compare-requires : goal.compare-requires
-compare-requires c = comparable c.requires.formed (sides_told c.sides.ensures c.in-Nodes.is) c.requires.claim_below c.requires.linear
+pub same_form-requires : goal.same_form-requires
+same_form-requires c = comparable _ c.requires.formed (c.in_ok-a.ensures.is _) (c.in_ok-a.ensures.below _ c.requires.claim_below) c.requires.linear
 
-pub returns-in-Same : goal.returns-in-Same
-returns-in-Same c = linear_fits c.requires.formed (sides_told c.sides.ensures c.in-Nodes.is) c.compare.ensures.same c.compare.auto.ws c.compare.ensures.value c.in-Same.is c.none.ensures
-
-pub returns-in-Different : goal.returns-in-Different
-returns-in-Different c = linear_differs c.requires.formed (sides_told c.sides.ensures c.in-Nodes.is) c.compare.ensures.same c.compare.auto.ws c.compare.ensures.value c.in-Different.is c.unfit-in-Different.ensures
+pub returns : goal.returns
+unfolding premises
+returns c =
+    fits_if _ (stays_hinted c.requires.formed c.same_form.ensures.same c.same_form.auto.ws) c.none_if.ensures.fits c.none_if.ensures.top
+    (λ policy g _. goes_on _ (c.in_ok-a.ensures.is _) (rw c.same_form.ensures.value))

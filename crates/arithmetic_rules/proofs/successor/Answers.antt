@@ -1,27 +1,33 @@
-use Rattle.model_laws.proofs.Steps.{failed}
-use Rattle.claims.proofs.PlanLaws.{formed_at, no_more_parts, no_parts, no_sides, operands_told, sides_told}
-use Rattle.arithmetic_rules.proofs.ArithmeticLaws.{successor_fits}
-use Rattle.model.specs.Rule.{premises}
+use Rattle.model.specs.Rule.{premises, sum_of}
+use Rattle.model_laws.proofs.Steps.{check_fails, check_passes, goes_on, stops}
+use Rattle.std.proofs.Common.{refl, sym, ◌∙◌}
+use native.Mathlib.Omega.{arith}
+use Rattle.claims.proofs.PlanLaws.{fits_one, formed_at, misfits, stays}
 use Rattle.nodes.proofs.Table.{part}
 use Rattle.arithmetic_rules.proofs.successor.Goals as goal
 
-pub returns-in_default : goal.returns-in_default
-unfolding premises
-returns-in_default c = no_sides _ c.requires.formed (sides_told c.sides.ensures c.in_default.is) c.unfit.ensures
+pub returns-in_err-left : goal.returns-in_err-left
+unfolding premises sum_of
+returns-in_err-left c = misfits (stays c.requires.formed) c.from_residual.ensures.0 (λ policy g _. stops _ (c.in_err-left.ensures.is _))
 
 pub operands-requires : goal.operands-requires
-operands-requires c = formed_at c.requires.formed ((sides_told c.sides.ensures c.in-Nodes.is).below _ c.requires.claim_below).0
+operands-requires c = formed_at c.requires.formed (c.in_ok-left.ensures.below _ c.requires.claim_below).0
 
-pub returns-in_default-operands : goal.returns-in_default-operands
-unfolding premises
-returns-in_default-operands c = no_parts _ _ c.requires.formed (sides_told c.sides.ensures c.in-Nodes.is) (operands_told c.operands.ensures c.in_default-operands.is).is c.unfit-in_default-operands.ensures
+pub returns-in_err-a : goal.returns-in_err-a
+unfolding premises sum_of
+returns-in_err-a c = misfits (stays c.requires.formed) c.from_residual-in_err-a.ensures.0 (λ policy g _. goes_on _ (c.in_ok-left.ensures.is _) (stops _ c.in_err-a.ensures.is))
 
 pub is_constant-requires : goal.is_constant-requires
-is_constant-requires c = part (formed_at c.requires.formed ((sides_told c.sides.ensures c.in-Nodes.is).below _ c.requires.claim_below).0) (operands_told c.operands.ensures c.in-Nodes-operands.is).below.1
+is_constant-requires c = part (formed_at c.requires.formed (c.in_ok-left.ensures.below _ c.requires.claim_below).0) c.in_ok-a.ensures.below.1
 
 pub returns-then-is_constant : goal.returns-then-is_constant
-returns-then-is_constant c = successor_fits c.requires.formed c.requires.claim_below (sides_told c.sides.ensures c.in-Nodes.is) (operands_told c.operands.ensures c.in-Nodes-operands.is) c.is_constant.ensures c.if-is_constant.true c.compared.ensures c.one.ensures
+unfolding premises sum_of
+returns-then-is_constant c =
+    let j = c.in_ok-left.ensures.below _ c.requires.claim_below in
+    let k = c.in_ok-a.ensures.below in
+    fits_one (stays c.requires.formed) c.new.ensures (omega arith) c.one.ensures (λ policy g _. goes_on _ (c.in_ok-left.ensures.is _) (goes_on _ c.in_ok-a.ensures.is (check_passes _ _ (sym c.is_constant.ensures ∙ c.if-is_constant.true) refl)))
 
 pub returns-else-is_constant : goal.returns-else-is_constant
-unfolding premises
-returns-else-is_constant c = no_more_parts _ _ _ c.requires.formed (sides_told c.sides.ensures c.in-Nodes.is) (operands_told c.operands.ensures c.in-Nodes-operands.is).is (failed _ c.is_constant.ensures c.if-is_constant.false) c.unfit-else-is_constant.ensures
+unfolding premises sum_of
+returns-else-is_constant c =
+    misfits (stays c.requires.formed) refl (λ policy g _. goes_on _ (c.in_ok-left.ensures.is _) (goes_on _ c.in_ok-a.ensures.is (check_fails _ _ (sym c.is_constant.ensures ∙ c.if-is_constant.false))))

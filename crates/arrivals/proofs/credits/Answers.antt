@@ -1,20 +1,18 @@
-use Rattle.arrivals.proofs.Arriving.{put_asks, difference_asks, first_asks, credits_stopped, second_asks, credits_judged}
+use Rattle.model.proofs.Results.{stopped}
+use Rattle.arrivals.proofs.Arriving.{first_asks, credits_stopped, second_asks, credits_judged}
 use Rattle.arrivals.proofs.credits.Goals as goal
 
-pub put_constant-requires : goal.put_constant-requires
-put_constant-requires c = let h = put_asks c.requires.going c.requires.node_in in record { formed = h.0; space = h.1 }
-
-pub put_difference-requires : goal.put_difference-requires
-put_difference-requires c = let h = difference_asks c.requires.going c.requires.node_in c.requires.node_in_2 c.put_constant.ensures c.put_constant.auto.ws in record { formed = h.0; space = h.1.0; left_lt_top = h.1.1 }
-
-pub goal-first-requires : goal.goal-first-requires
-goal-first-requires c = let h = first_asks c.requires.going c.requires.node_in c.requires.node_in_2 c.put_constant.ensures c.put_constant.auto.ws c.put_difference.ensures c.put_difference.auto.ws c.raised-inner.ensures in record { going = h.0; claim_in = h.1 }
-
-pub returns-in_default : goal.returns-in_default
-returns-in_default c = credits_stopped c.requires.going c.requires.node_in c.requires.node_in_2 c.put_constant.ensures c.put_constant.auto.ws c.put_difference.ensures c.put_difference.auto.ws c.raised-inner.ensures c.goal-first.ensures c.in_default.is
+pub put_constant-requires-clause-formed : goal.put_constant-requires-clause-formed
+put_constant-requires-clause-formed c = c.requires.going.inside.prepared.formed
 
 pub goal-requires : goal.goal-requires
-goal-requires c = let h = second_asks c.requires.going c.requires.node_in c.requires.node_in_2 c.put_constant.ensures c.put_constant.auto.ws c.put_difference.ensures c.put_difference.auto.ws c.raised-inner.ensures c.goal-first.ensures c.in-Next.is c.goal-first.auto.ws in record { going = h.0; claim_in = h.1 }
+goal-requires c = let h = first_asks c.requires.going c.requires.credit_in c.requires.owed_in c.put_constant.ensures c.put_constant.auto.ws c.put_pair.ensures c.put_pair.auto.ws c.raised-inner.ensures in record { going = h.0; claim_in = h.1 }
+
+pub returns-in_err-after : goal.returns-in_err-after
+returns-in_err-after c = rw (stopped _ _ c.from_residual.ensures.1) (credits_stopped c.requires.going c.requires.credit_in c.requires.owed_in c.put_constant.ensures c.put_constant.auto.ws c.put_pair.ensures c.put_pair.auto.ws c.raised-inner.ensures c.in_err-after.ensures)
+
+pub goal-requires-2 : goal.goal-requires-2
+goal-requires-2 c = let h = second_asks c.requires.going c.requires.credit_in c.requires.owed_in c.put_constant.ensures c.put_constant.auto.ws c.put_pair.ensures c.put_pair.auto.ws c.raised-inner.ensures c.in_ok-after.ensures c.goal.auto.ws in record { going = h.0; claim_in = h.1 }
 
 pub returns : goal.returns
-returns c = credits_judged c.requires.going c.requires.node_in c.requires.node_in_2 c.put_constant.ensures c.put_constant.auto.ws c.put_difference.ensures c.put_difference.auto.ws c.raised-inner.ensures c.goal-first.ensures c.in-Next.is c.goal-first.auto.ws c.goal.ensures
+returns c = credits_judged c.requires.going c.requires.credit_in c.requires.owed_in c.put_constant.ensures c.put_constant.auto.ws c.put_pair.ensures c.put_pair.auto.ws c.raised-inner.ensures c.in_ok-after.ensures c.goal.auto.ws c.goal-2.ensures

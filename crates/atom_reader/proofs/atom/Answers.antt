@@ -1,26 +1,51 @@
 use native.Mathlib.Omega.{arith}
-use Rattle.model.specs.Expression.{most_nodes}
-use Rattle.term_reader.proofs.Building.{not_term, ready_fewer}
-use Rattle.atom_reader.proofs.Atoms.{atom_read_missing, atom_read_unknown, atom_left_refused, atom_right_refused, atom_read_found, ready_right}
+use Rattle.model.specs.declared.ReadError.TheVariants.{Fault}
+use Rattle.std.proofs.lemmas.Result.{err_from_is_err_and}
+use Rattle.term_reader.proofs.Building.{variable_same, node_same, kept_before}
+use Rattle.nodes.proofs.Table.{formed_less}
+use Rattle.atom_reader.proofs.Reading.{no_kind, kind_found, atom_missing, atom_unknown, left_refused, right_refused, atom_read}
 use Rattle.atom_reader.proofs.atom.Goals as goal
 
-pub returns-then-at-end : goal.returns-then-at-end
-returns-then-at-end c = atom_read_missing c.requires.ready (omega arith)
+pub returns-then-source-at-clause-answer : goal.returns-then-source-at-clause-answer
+returns-then-source-at-clause-answer c = atom_missing _ _ _ _ _ (omega arith)
 
-pub returns-then-tag-gt3 : goal.returns-then-tag-gt3
-returns-then-tag-gt3 c = atom_read_unknown c.requires.ready (omega arith) (omega arith)
+pub returns-in_err-kind-clause-answer : goal.returns-in_err-kind-clause-answer
+returns-in_err-kind-clause-answer c =
+    let p = err_from_is_err_and c.from_residual.result c.from_residual.ensures.1 in
+    let none = no_kind _ {f = Fault c.args.at} (λ known. cc) c.try_from.ensures c.in_err-kind.ensures.cases in
+    rw (p.1, p.2) (atom_unknown _ _ _ _ _ (omega arith) none.0 none.1)
 
-pub expression-first-requires : goal.expression-first-requires
-expression-first-requires c = record { end_in_bounds = c.requires.end_in_bounds; ready = ready_fewer most_nodes (omega arith) c.requires.ready }
+pub returns-in_err-first-clause-answer : goal.returns-in_err-first-clause-answer
+returns-in_err-first-clause-answer c =
+    let p = err_from_is_err_and c.from_residual-in_err-first.result c.from_residual-in_err-first.ensures.1 in
+    rw (p.1, p.2) (left_refused _ _ _ _ _ (omega arith) (kind_found _ (λ e. e) c.try_from.ensures c.in_ok-kind.ensures.cases) c.in_err-first.ensures.answer)
 
-pub returns-in_default : goal.returns-in_default
-returns-in_default c = atom_left_refused c.requires.ready (omega arith) (omega arith) c.expression-first.result (not_term c.expression-first.result c.in_default.not-Term) c.expression-first.ensures c.unread.ensures
+pub returns-in_err-second-clause-answer : goal.returns-in_err-second-clause-answer
+returns-in_err-second-clause-answer c =
+    let p = err_from_is_err_and c.from_residual-in_err-second.result c.from_residual-in_err-second.ensures.1 in
+    let same = variable_same _ _ c.requires.held c.in_ok-first.ensures.grown.kept in
+    rw (p.1, p.2) (right_refused _ _ _ _ _ (omega arith) (kind_found _ (λ e. e) c.try_from.ensures c.in_ok-kind.ensures.cases) c.in_ok-first.ensures.answer same c.in_err-second.ensures.answer)
 
-pub expression-second-requires : goal.expression-second-requires
-expression-second-requires c = record { end_in_bounds = c.requires.end_in_bounds; ready = ready_right c.requires.ready c.in-Term.ensures.grown c.expression-first.auto.ws }
+pub returns-clause-answer : goal.returns-clause-answer
+returns-clause-answer c =
+    let first = c.in_ok-first.ensures.grown in
+    let second = c.in_ok-second.ensures.grown in
+    let same = variable_same _ _ c.requires.held first.kept in
+    atom_read _ _ _ _ _ (omega arith) (kind_found _ (λ e. e) c.try_from.ensures c.in_ok-kind.ensures.cases) c.in_ok-first.ensures.answer same c.in_ok-second.ensures.answer (node_same second.kept first.found.node_in_table)
 
-pub returns-in_default-second : goal.returns-in_default-second
-returns-in_default-second c = atom_right_refused c.requires.ready (omega arith) (omega arith) c.in-Term.ensures c.expression-second.result (not_term c.expression-second.result c.in_default-second.not-Term) c.expression-second.ensures c.unread-in_default-second.ensures
-
-pub returns : goal.returns
-returns c = rw (c.wide.ensures, c.wide-2.ensures) (atom_read_found c.requires.ready (omega arith) (omega arith) c.in-Term.ensures c.in-Term-second.ensures c.comparison.ensures)
+pub returns-clause-grown : goal.returns-clause-grown
+returns-clause-grown c =
+    let first = c.in_ok-first.ensures.grown in
+    let second = c.in_ok-second.ensures.grown in
+    record {
+      kept = kept_before first.found.grows first.kept second.kept;
+      formed = formed_less _ first.found.grows second.formed;
+      found = record {
+        formed = second.found.formed;
+        left_in_table = omega (arith, first.found.node_in_table, second.found.grows);
+        right_in_table = second.found.node_in_table;
+        next_in_bounds = second.found.next_in_bounds;
+        grows = omega (arith, first.found.grows, second.found.grows);
+        few = omega (arith, first.found.few, second.found.few);
+      };
+    }

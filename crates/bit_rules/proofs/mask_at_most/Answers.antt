@@ -1,28 +1,26 @@
-use Rattle.model_laws.proofs.Steps.{failed}
-use Rattle.model.specs.Rule.{premises}
-use Rattle.claims.proofs.PlanLaws.{formed_at, no_more_parts, no_parts, no_sides, operands_told, sides_told}
-use Rattle.bit_rules.proofs.BitLaws.{both_formed, parts_pass}
+use Rattle.model.specs.Rule.{mask_of, premises}
+use Rattle.model_laws.proofs.Steps.{goes_on, stops}
+use Rattle.claims.proofs.PlanLaws.{fits_if, formed_at, misfits, stays}
 use native.Mathlib.Omega.{arith}
 use Rattle.bit_rules.proofs.mask_at_most.Goals as goal
 
-pub returns-in_default : goal.returns-in_default
-unfolding premises
-returns-in_default c = no_sides _ c.requires.formed (sides_told c.sides.ensures c.in_default.is) c.unfit.ensures
+pub returns-in_err-left : goal.returns-in_err-left
+unfolding premises mask_of
+returns-in_err-left c = misfits (stays c.requires.formed) c.from_residual.ensures.0 (λ policy g _. stops _ (c.in_err-left.ensures.is _))
 
-pub masked-requires : goal.masked-requires
-masked-requires c = formed_at c.requires.formed ((sides_told c.sides.ensures c.in-Nodes.is).below _ c.requires.claim_below).0
+pub operands-requires : goal.operands-requires
+operands-requires c = formed_at c.requires.formed (c.in_ok-left.ensures.below _ c.requires.claim_below).0
 
-pub returns-in_default-masked : goal.returns-in_default-masked
-unfolding premises
-returns-in_default-masked c = no_parts _ _ c.requires.formed (sides_told c.sides.ensures c.in-Nodes.is) (operands_told c.masked.ensures c.in_default-masked.is).is c.unfit-in_default-masked.ensures
+pub returns-in_err-b : goal.returns-in_err-b
+unfolding premises mask_of
+returns-in_err-b c = misfits (stays c.requires.formed) c.from_residual-in_err-b.ensures.0 (λ policy g _. goes_on _ (c.in_ok-left.ensures.is _) (stops _ c.in_err-b.ensures.is))
 
 pub same-requires : goal.same-requires
-same-requires c = let h = let j = (sides_told c.sides.ensures c.in-Nodes.is).below _ c.requires.claim_below in let k = (operands_told c.masked.ensures c.in-Nodes-masked.is).below in both_formed c.requires.formed (omega arith) in record { formed = h.0; formed_2 = h.1 }
+same-requires c =
+    let j = c.in_ok-left.ensures.below _ c.requires.claim_below in
+    let k = c.in_ok-b.ensures.below in
+    record { first_formed = formed_at c.requires.formed (omega arith); second_formed = formed_at c.requires.formed j.1 }
 
-pub returns-then-same : goal.returns-then-same
-unfolding premises
-returns-then-same c = parts_pass _ _ c.requires.formed (sides_told c.sides.ensures c.in-Nodes.is) (operands_told c.masked.ensures c.in-Nodes-masked.is).is c.same.ensures c.if-same.true c.none.ensures
-
-pub returns-else-same : goal.returns-else-same
-unfolding premises
-returns-else-same c = no_more_parts _ _ _ c.requires.formed (sides_told c.sides.ensures c.in-Nodes.is) (operands_told c.masked.ensures c.in-Nodes-masked.is).is (failed _ c.same.ensures c.if-same.false) c.unfit-else-same.ensures
+pub returns : goal.returns
+unfolding premises mask_of
+returns c = fits_if _ (stays c.requires.formed) c.none_if.ensures.fits c.none_if.ensures.top (λ policy g _. goes_on _ (c.in_ok-left.ensures.is _) (goes_on _ c.in_ok-b.ensures.is (rw c.same.ensures)))

@@ -1,28 +1,26 @@
-use Rattle.model_laws.proofs.Steps.{failed}
 use Rattle.model.specs.Rule.{premises}
-use Rattle.claims.proofs.PlanLaws.{formed_at, no_more_parts, no_parts, no_sides, shifts_told, sides_told}
-use Rattle.bit_rules.proofs.BitLaws.{both_formed, parts_pass}
+use Rattle.model_laws.proofs.Steps.{goes_on, stops}
+use Rattle.claims.proofs.PlanLaws.{fits_if, formed_at, misfits, stays}
 use native.Mathlib.Omega.{arith}
 use Rattle.bit_rules.proofs.shift_at_most.Goals as goal
 
-pub returns-in_default : goal.returns-in_default
+pub returns-in_err-left : goal.returns-in_err-left
 unfolding premises
-returns-in_default c = no_sides _ c.requires.formed (sides_told c.sides.ensures c.in_default.is) c.unfit.ensures
+returns-in_err-left c = misfits (stays c.requires.formed) c.from_residual.ensures.0 (λ policy g _. stops _ (c.in_err-left.ensures.is _))
 
 pub shifted-requires : goal.shifted-requires
-shifted-requires c = formed_at c.requires.formed ((sides_told c.sides.ensures c.in-Nodes.is).below _ c.requires.claim_below).0
+shifted-requires c = formed_at c.requires.formed (c.in_ok-left.ensures.below _ c.requires.claim_below).0
 
-pub returns-in_default-shifted : goal.returns-in_default-shifted
+pub returns-in_err-a : goal.returns-in_err-a
 unfolding premises
-returns-in_default-shifted c = no_parts _ _ c.requires.formed (sides_told c.sides.ensures c.in-Nodes.is) (shifts_told c.shifted.ensures c.in_default-shifted.is).is c.unfit-in_default-shifted.ensures
+returns-in_err-a c = misfits (stays c.requires.formed) c.from_residual-in_err-a.ensures.0 (λ policy g _. goes_on _ (c.in_ok-left.ensures.is _) (stops _ c.in_err-a.ensures.is))
 
 pub same-requires : goal.same-requires
-same-requires c = let h = let j = (sides_told c.sides.ensures c.in-Nodes.is).below _ c.requires.claim_below in let k = (shifts_told c.shifted.ensures c.in-By.is).below in both_formed c.requires.formed (omega arith) in record { formed = h.0; formed_2 = h.1 }
+same-requires c =
+    let j = c.in_ok-left.ensures.below _ c.requires.claim_below in
+    let k = c.in_ok-a.ensures.below in
+    record { first_formed = formed_at c.requires.formed (omega arith); second_formed = formed_at c.requires.formed j.1 }
 
-pub returns-then-same : goal.returns-then-same
+pub returns : goal.returns
 unfolding premises
-returns-then-same c = parts_pass _ _ c.requires.formed (sides_told c.sides.ensures c.in-Nodes.is) (shifts_told c.shifted.ensures c.in-By.is).is c.same.ensures c.if-same.true c.none.ensures
-
-pub returns-else-same : goal.returns-else-same
-unfolding premises
-returns-else-same c = no_more_parts _ _ _ c.requires.formed (sides_told c.sides.ensures c.in-Nodes.is) (shifts_told c.shifted.ensures c.in-By.is).is (failed _ c.same.ensures c.if-same.false) c.unfit-else-same.ensures
+returns c = fits_if _ (stays c.requires.formed) c.none_if.ensures.fits c.none_if.ensures.top (λ policy g _. goes_on _ (c.in_ok-left.ensures.is _) (goes_on _ c.in_ok-a.ensures.is (rw c.same.ensures)))

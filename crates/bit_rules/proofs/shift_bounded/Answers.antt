@@ -1,27 +1,24 @@
-use Rattle.model_laws.proofs.Steps.{failed}
 use Rattle.model.specs.Rule.{premises}
-use Rattle.claims.proofs.PlanLaws.{formed_at, no_more_parts, no_parts, no_sides, shifts_told, sides_told}
-use Rattle.bit_rules.proofs.BitLaws.{constant_test, parts_pass}
+use Rattle.model_laws.proofs.Steps.{goes_on, stops}
+use Rattle.claims.proofs.PlanLaws.{fits_if, formed_at, misfits, stays}
 use Rattle.bit_rules.proofs.shift_bounded.Goals as goal
 
-pub returns-in_default : goal.returns-in_default
+pub returns-in_err-left : goal.returns-in_err-left
 unfolding premises
-returns-in_default c = no_sides _ c.requires.formed (sides_told c.sides.ensures c.in_default.is) c.unfit.ensures
+returns-in_err-left c = misfits (stays c.requires.formed) c.from_residual.ensures.0 (λ policy g _. stops _ (c.in_err-left.ensures.is _))
 
 pub shifted-requires : goal.shifted-requires
-shifted-requires c = formed_at c.requires.formed ((sides_told c.sides.ensures c.in-Nodes.is).below _ c.requires.claim_below).0
+shifted-requires c = formed_at c.requires.formed (c.in_ok-left.ensures.below _ c.requires.claim_below).0
 
-pub returns-in_default-shifted : goal.returns-in_default-shifted
+pub returns-in_err-count : goal.returns-in_err-count
 unfolding premises
-returns-in_default-shifted c = no_parts _ _ c.requires.formed (sides_told c.sides.ensures c.in-Nodes.is) (shifts_told c.shifted.ensures c.in_default-shifted.is).is c.unfit-in_default-shifted.ensures
+returns-in_err-count c = misfits (stays c.requires.formed) c.from_residual-in_err-count.ensures.0 (λ policy g _. goes_on _ (c.in_ok-left.ensures.is _) (stops _ c.in_err-count.ensures.is))
 
 pub is_constant-requires : goal.is_constant-requires
-is_constant-requires c = formed_at c.requires.formed ((sides_told c.sides.ensures c.in-Nodes.is).below _ c.requires.claim_below).1
+is_constant-requires c = formed_at c.requires.formed (c.in_ok-left.ensures.below _ c.requires.claim_below).1
 
-pub returns-then-is_constant : goal.returns-then-is_constant
+pub returns : goal.returns
 unfolding premises
-returns-then-is_constant c = parts_pass _ _ c.requires.formed (sides_told c.sides.ensures c.in-Nodes.is) (shifts_told c.shifted.ensures c.in-By.is).is (constant_test _ c.is_constant.ensures c.shift.ensures) c.if-is_constant.true c.none.ensures
-
-pub returns-else-is_constant : goal.returns-else-is_constant
-unfolding premises
-returns-else-is_constant c = no_more_parts _ _ _ c.requires.formed (sides_told c.sides.ensures c.in-Nodes.is) (shifts_told c.shifted.ensures c.in-By.is).is (failed _ (constant_test _ c.is_constant.ensures c.shift.ensures) c.if-is_constant.false) c.unfit-else-is_constant.ensures
+returns c =
+    fits_if _ (stays c.requires.formed) c.none_if.ensures.fits c.none_if.ensures.top
+    (λ policy g _. goes_on _ (c.in_ok-left.ensures.is _) (goes_on _ c.in_ok-count.ensures.is (rw (c.is_constant.ensures, c.shift-bound.ensures))))

@@ -1,24 +1,20 @@
-use borrow.Enum.Refused.{opened}
+use mathlib.Core.Path.{◌∙◌}
 use native.Mathlib.Omega.{arith}
-use Rattle.atom_reader.specs.AtomReader.{atom_nodes}
-use Rattle.paths.proofs.Walking.{path_ready}
-use Rattle.blocks.proofs.Starting.{assume_none, assume_unread, assuming_asks, assume_asks, assume_more}
+use Rattle.paths.proofs.Found.{atom_found}
+use Rattle.blocks.proofs.Starting.{assume_none, assume_unread, raised_in, assume_asks, assume_more}
 use Rattle.blocks.proofs.+assume.Goals as goal
 
-pub returns-then-number-eq0 : goal.returns-then-number-eq0
-returns-then-number-eq0 t c = assume_none c.requires.fresh c.if-number-eq0.true
-
-pub atom-read-requires : goal.atom-read-requires
-atom-read-requires t c = record { end_in_bounds = (c.requires.end_in_bounds, omega arith); ready = path_ready atom_nodes (omega (arith, c.if-number-eq0.false)) c.requires.fresh.inside c.requires.fresh.space }
+pub returns-then-condition-eq0 : goal.returns-then-condition-eq0
+returns-then-condition-eq0 t c = assume_none c.requires.fresh c.if-condition-eq0.true
 
 pub returns-in_default : goal.returns-in_default
-returns-in_default t c = assume_unread c.requires.fresh c.if-number-eq0.false c.atom-read.auto.ws c.atom-read.result c.atom-read.ensures (opened c.in_default.in_default-own.keys2)
+returns-in_default t c = assume_unread c.requires.fresh c.if-condition-eq0.false c.atom.auto.ws c.in_default.ensures.grown c.in_default.ensures.answer
 
-pub assuming-more-requires : goal.assuming-more-requires
-assuming-more-requires t c = let h = assuming_asks c.requires.fresh c.if-number-eq0.false c.atom-read.auto.ws c.atom-read.ensures c.in-Atom.is c.raised.ensures in record { path_in = h.0; assumptions_lt_most_assumptions = h.1.0; left_lt_top = h.1.1 }
+pub assuming-more-requires-clause-path_in : goal.assuming-more-requires-clause-path_in
+assuming-more-requires-clause-path_in t c = raised_in c.requires.fresh (atom_found c.requires.fresh.inside c.atom.auto.ws c.in-Ok.ensures.grown c.in-Ok.ensures.answer) c.raised.ensures
 
 pub assume-requires : goal.assume-requires
-assume-requires t c = assume_asks c.requires.fresh c.if-number-eq0.false c.atom-read.auto.ws c.atom-read.ensures c.in-Atom.is c.raised.ensures c.assuming-more.ensures c.decreases c.requires.end_in_bounds c.assuming-more.auto.ws
+assume-requires t c = (omega (arith, c.decreases, c.if-condition-eq0.false), (c.requires.end_in_bounds, assume_asks c.requires.fresh (atom_found c.requires.fresh.inside c.atom.auto.ws c.in-Ok.ensures.grown c.in-Ok.ensures.answer) c.raised.ensures c.assuming-more.ensures c.if-condition-eq0.false (c.assuming-more.auto.ws ∙ c.atom.auto.ws)))
 
 pub returns : goal.returns
-returns t c = assume_more c.requires.fresh c.if-number-eq0.false c.atom-read.auto.ws c.atom-read.ensures c.in-Atom.is c.raised.ensures c.assuming-more.ensures c.assume.ensures
+returns t c = assume_more c.requires.fresh (atom_found c.requires.fresh.inside c.atom.auto.ws c.in-Ok.ensures.grown c.in-Ok.ensures.answer) c.raised.ensures c.assuming-more.ensures c.if-condition-eq0.false c.in-Ok.ensures.answer c.assume.ensures

@@ -1,17 +1,17 @@
-use Rattle.blocks.proofs.Starting.{filling_none, filling_asks, filling_more, filled}
+use mathlib.Core.Path.{subst}
+use native.Mathlib.Omega.{arith}
+use Rattle.blocks.specs.Starting.{Variables}
+use Rattle.blocks.proofs.Starting.{variables_none, variables_more}
 use Rattle.blocks.proofs.variables.Goals as goal
 
 pub loop-v-init : goal.loop-v-init
-loop-v-init c = filling_none c.requires
+loop-v-init c = variables_none c.requires
 
-pub put_variable-requires : goal.put_variable-requires
-put_variable-requires c = let h = filling_asks c.requires c.loop-v.invariant c.loop-v-test.true in record { formed = h.0; space = h.1.0; number_lt_most_variables = h.1.1 }
+pub put_variable-requires-clause-formed : goal.put_variable-requires-clause-formed
+put_variable-requires-clause-formed c = c.loop-v.invariant.formed
 
 pub loop-v-preserved : goal.loop-v-preserved
-loop-v-preserved c = filling_more c.requires c.loop-v.invariant c.loop-v-test.true c.put_variable.ensures c.put_variable.auto.ws
-
-pub shape_of-ws : goal.shape_of-ws
-shape_of-ws c = c.loop-v.invariant.long
+loop-v-preserved c = variables_more c.loop-v.invariant c.put_variable.ensures
 
 pub returns : goal.returns
-returns c = filled c.requires c.loop-v.invariant c.loop-v-test.false
+returns c = subst (Variables c.args.ws.now c.loop-v.ws) (omega (arith, c.loop-v-test.false, c.loop-v.auto.v-end)) c.loop-v.invariant

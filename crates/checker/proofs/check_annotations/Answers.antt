@@ -1,19 +1,17 @@
-use native.Mathlib.Omega.{arith}
+use mathlib.Core.Path.{refl}
+use Rattle.model.proofs.Results.{stopped}
+use Rattle.setting.proofs.Fixing.{policy_fits, annotations_fit}
 use Rattle.checker.proofs.Laws as laws
-use mathlib.Core.Path.{refl, ◌∙◌}
 use Rattle.checker.proofs.check_annotations.Goals as goal
 
-pub returns-in-Refused : goal.returns-in-Refused
-returns-in-Refused c = laws.annotations_stop _ _ _ _ _ _ c.read_annotations-read.ensures _ c.in-Refused.is _ c.refusing.ensures
+pub returns-in_err-read : goal.returns-in_err-read
+returns-in_err-read c = rw (stopped _ _ c.from_residual.ensures.1) (laws.annotations_stop _ _ _ _ c.in_err-read.ensures.is)
 
-pub returns-in-Refused-targets : goal.returns-in-Refused-targets
-returns-in-Refused-targets c = laws.targets_stop _ _ _ _ _ _ c.read_annotations-read.ensures c.in_default.is _ c.check_targets-targets.ensures _ c.in-Refused-targets.is _ c.refusing-in-Refused-targets.ensures
+pub returns-in_err-check_targets : goal.returns-in_err-check_targets
+returns-in_err-check_targets c = rw (stopped _ _ c.from_residual-in_err-check_targets.ensures.1) (laws.targets_stop _ _ _ _ c.in_ok-read.ensures.is c.in_ok-read.ensures.tabled _ (rw c.as_slice-annotations.ensures.same at c.in_err-check_targets.ensures) _ refl)
 
-pub evaluate-requires : goal.evaluate-requires
-evaluate-requires c = record { settled = laws.settled _ _ _ _ _ _ _ _ c.requires.checked c.read_annotations-read.ensures c.in_default.is c.proof_start.ensures; workspace = record { words = omega (arith, c.requires.least_workspace_in_bounds, c.clear_area.auto.workspace); cleared = c.clear_area.ensures } }
-
-pub shape_of-workspace : goal.shape_of-workspace
-shape_of-workspace c = c.evaluate.auto.ws ∙ c.clear_area.auto.workspace
+pub invariant_of-setting : goal.invariant_of-setting
+invariant_of-setting c = record { policy_fits = policy_fits c.requires.checked; annotations_fit = rw c.as_slice-annotations.ensures.same (annotations_fit c.in_ok-read.ensures.tabled) }
 
 pub returns : goal.returns
-returns c = laws.evaluated _ _ _ _ _ _ c.read_annotations-read.ensures c.in_default.is _ c.check_targets-targets.ensures _ _ _ refl c.proof_start.ensures c.in_default-targets.is _ c.evaluate.ensures
+returns c = laws.evaluated _ _ c.evaluate.ensures (rw c.as_slice-annotations.ensures.same c.in_ok-read.ensures.is) (rw c.as_slice-annotations.ensures.same c.in_ok-read.ensures.tabled) c.in_ok-check_targets.ensures refl

@@ -1,18 +1,12 @@
+use Rattle.model.proofs.Results.{stopped}
 use Rattle.checker.proofs.Laws as laws
-use Rattle.header.proofs.Headers.{passed}
 use Rattle.checker.proofs.check_package.Goals as goal
 
-pub returns-in-Refused : goal.returns-in-Refused
-returns-in-Refused c = laws.header_stop _ _ _ c.read_header.ensures _ c.in-Refused.is _ c.refusing.ensures
+pub returns-in_err-routine : goal.returns-in_err-routine
+returns-in_err-routine c = rw (stopped _ _ c.from_residual.ensures.1) (laws.header_stop _ _ _ c.in_err-routine.ensures.is)
 
-pub check_code-code-requires : goal.check_code-code-requires
-check_code-code-requires c = (passed c.read_header.ensures c.in-Passed.is).1
-
-pub returns-in-Refused-code : goal.returns-in-Refused-code
-returns-in-Refused-code c = laws.code_stop _ _ _ c.read_header.ensures _ c.in-Passed.is _ c.check_code-code.ensures _ c.in-Refused-code.is _ c.refusing-in-Refused-code.ensures
-
-pub check_annotations-requires : goal.check_annotations-requires
-check_annotations-requires c = record { least_workspace_in_bounds = c.requires.least_workspace_in_bounds; checked = (c.requires.checked, (passed c.read_header.ensures c.in-Passed.is).1) }
+pub returns-in_err-check_code : goal.returns-in_err-check_code
+returns-in_err-check_code c = rw (stopped _ _ c.from_residual-in_err-check_code.ensures.1) (laws.code_stop _ _ _ c.in_ok-routine.ensures.is _ (rw c.in_ok-routine.ensures.whole at c.in_err-check_code.ensures))
 
 pub returns : goal.returns
-returns c = laws.annotations_checked _ _ _ c.read_header.ensures _ c.in-Passed.is _ c.check_code-code.ensures c.in_default.is _ c.check_annotations.ensures
+returns c = laws.annotations_checked _ _ _ c.in_ok-routine.ensures.is (rw c.in_ok-routine.ensures.whole at c.in_ok-check_code.ensures) _ (rw c.in_ok-routine.ensures.whole at c.check_annotations.ensures)

@@ -1,8 +1,10 @@
-use Rattle.decoding.proofs.Targets.{goes, stays}
+use Rattle.model.specs.Instruction.{target_inside}
 use Rattle.decoding.proofs.target_inside.Goals as goal
 
-pub returns-in-At : goal.returns-in-At
-returns-in-At c = goes _ _ _ c.target_of-target.ensures _ _ c.in-At.is c.wide.ensures
+pub returns-in-Some : goal.returns-in-Some
+unfolding target_inside
+returns-in-Some c = rw (← c.in-Some.ensures, target_inside)
 
-pub returns-in-Nowhere : goal.returns-in-Nowhere
-returns-in-Nowhere c = stays _ _ _ c.target_of-target.ensures c.in-Nowhere.is
+pub returns-in-None : goal.returns-in-None
+unfolding target_inside
+returns-in-None c = rw (← c.in-None.ensures, target_inside)

@@ -1,5 +1,7 @@
+use Rattle.std.proofs.Common.{refl}
+use Rattle.std.proofs.lemmas.Result.{err_from_is_err_and}
 use native.Mathlib.Omega.{arith}
-use Rattle.derivation.proofs.DerivationLaws.{derivable_one, too_deep, rule_refused, rule_applied, all_derived, premise_asks, one_fewer, premise_refused, premise_derived}
+use Rattle.derivation.proofs.DerivationLaws.{derivable_one, too_deep, rule_refused, rule_applied, all_derived, premise_asks, premise_refused, premise_derived}
 use Rattle.derivation.proofs.+derive.Goals as goal
 
 pub returns-then-levels-eq0 : goal.returns-then-levels-eq0
@@ -8,23 +10,25 @@ returns-then-levels-eq0 t c = too_deep c.requires (omega arith)
 pub apply-requires : goal.apply-requires
 apply-requires t c = derivable_one c.requires (omega arith)
 
-pub loop-due-init : goal.loop-due-init
-loop-due-init t c = rule_applied c.requires (omega arith) c.apply.ensures c.in-Premises.is c.apply.auto.ws
+pub returns-in_err-plan : goal.returns-in_err-plan
+returns-in_err-plan t c =
+    let p = err_from_is_err_and c.from_residual.result c.from_residual.ensures.1 in
+    rw (p.1, p.2) (rule_refused c.requires (omega arith) c.in_err-plan.ensures)
+
+pub loop-premise-init : goal.loop-premise-init
+loop-premise-init t c = rule_applied c.requires (omega arith) c.in_ok-plan.ensures c.apply.auto.ws c.premises-premise-items.ensures
 
 pub derive-requires : goal.derive-requires
-derive-requires t c = (omega (arith, c.decreases), premise_asks c.loop-due.invariant c.loop-due-test.true c.first-premise.ensures)
+derive-requires t c = (omega (arith, c.decreases), premise_asks c.loop-premise.invariant c.loop-premise-test.true _ c.claim-due.ensures)
 
-pub returns-in-Refused-derive : goal.returns-in-Refused-derive
-returns-in-Refused-derive t c = premise_refused c.requires (omega arith) c.apply.ensures c.in-Premises.is c.loop-due.invariant c.loop-due-test.true c.first-premise.ensures c.derive.ensures c.in-Refused-derive.is
+pub returns-in_err-reached : goal.returns-in_err-reached
+returns-in_err-reached t c =
+    let p = err_from_is_err_and c.from_residual-in_err-reached.result c.from_residual-in_err-reached.ensures.1 in
+    rw (p.1, p.2)
+    (premise_refused c.requires (omega arith) c.in_ok-plan.ensures c.premises-premise-items.ensures refl c.loop-premise.invariant c.loop-premise-test.true _ c.claim-due.ensures c.in_err-reached.ensures)
 
-pub loop-due-smaller : goal.loop-due-smaller
-loop-due-smaller t c = one_fewer c.loop-due.invariant c.loop-due-test.true c.first-premise.ensures c.rest-due.ensures
+pub loop-premise-preserved : goal.loop-premise-preserved
+loop-premise-preserved t c = premise_derived c.loop-premise.invariant c.loop-premise-test.true _ c.claim-due.ensures c.in_ok-reached.ensures c.derive.auto.ws
 
-pub loop-due-preserved : goal.loop-due-preserved
-loop-due-preserved t c = premise_derived c.loop-due.invariant c.loop-due-test.true c.first-premise.ensures c.derive.ensures c.in-Next.is c.derive.auto.ws c.rest-due.ensures
-
-pub returns-in-Refused : goal.returns-in-Refused
-returns-in-Refused t c = rule_refused c.requires (omega arith) c.apply.ensures c.in-Refused.is
-
-pub returns-after-loop-due : goal.returns-after-loop-due
-returns-after-loop-due t c = all_derived c.requires (omega arith) c.apply.ensures c.in-Premises.is c.loop-due.invariant c.loop-due-test.false
+pub returns : goal.returns
+returns t c = all_derived c.requires (omega arith) c.in_ok-plan.ensures c.premises-premise-items.ensures refl c.loop-premise.invariant c.loop-premise-test.false

@@ -1,11 +1,8 @@
 use Rattle.derivation.proofs.DerivationLaws.{Running}
 use Rattle.derivation.proofs.+derive.Given as goal
 
-abbrev pub invariant-loop-due : goal.invariant-loop-due
-invariant-loop-due l = Running l.bytes l.regions l.initial.ws l.ws l.scope l.levels l.initial.due l.next l.due l.reached
-
-abbrev pub decreases-loop-due : goal.decreases-loop-due
-decreases-loop-due l = l.due.count
+abbrev pub invariant-loop-premise : goal.invariant-loop-premise
+invariant-loop-premise l = Running l.bytes l.regions l.initial.ws l.ws l.scope l.levels l.above l.premise-items l.next l.premise-index l.reached
 
 abbrev pub decreases-derive : goal.decreases-derive
 decreases-derive l = l.levels

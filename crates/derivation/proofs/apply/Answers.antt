@@ -1,17 +1,20 @@
-use Rattle.derivation.proofs.ApplyLaws.{applies_fits, applies_refused, applies_unfit, opening_of, opens_told, plannable}
+use Rattle.std.proofs.lemmas.Result.{err_from_is_err_and}
+use Rattle.derivation.proofs.ApplyLaws.{applies_fits, applies_refused, applies_unfit, opening_of, plannable}
 use Rattle.derivation.proofs.apply.Goals as goal
 
 pub read_rule-requires : goal.read_rule-requires
 read_rule-requires c = opening_of c.requires
 
-pub planned-plan-requires : goal.planned-plan-requires
-planned-plan-requires c = plannable c.requires (opens_told c.read_rule.ensures c.in-Rule.is) c.read_rule.auto.ws
+pub returns-in_err-opened : goal.returns-in_err-opened
+returns-in_err-opened c =
+    let p = err_from_is_err_and c.from_residual.result c.from_residual.ensures.1 in
+    rw (p.1, p.2) (applies_refused c.requires _ _ c.in_err-opened.ensures.answer c.in_err-opened.ensures.grown)
 
-pub returns-then-plan : goal.returns-then-plan
-returns-then-plan c = applies_fits c.requires (opens_told c.read_rule.ensures c.in-Rule.is) c.planned-plan.ensures c.if-plan.true
+pub planned-requires : goal.planned-requires
+planned-requires c = plannable c.requires _ _ c.in_ok-opened.ensures.answer c.in_ok-opened.ensures.grown c.read_rule.auto.ws
 
-pub returns-else-plan : goal.returns-else-plan
-returns-else-plan c = applies_unfit c.requires (opens_told c.read_rule.ensures c.in-Rule.is) c.planned-plan.ensures c.if-plan.false
+pub returns-in_default : goal.returns-in_default
+returns-in_default c = applies_unfit c.requires _ _ c.in_ok-opened.ensures.answer c.in_ok-opened.ensures.grown c.planned.ensures c.in_default.is
 
-pub returns-in-Refused : goal.returns-in-Refused
-returns-in-Refused c = applies_refused c.requires (opens_told c.read_rule.ensures c.in-Refused.is)
+pub returns : goal.returns
+returns c = applies_fits c.requires _ _ c.in_ok-opened.ensures.answer c.in_ok-opened.ensures.grown c.in-Ok.ensures

@@ -1,13 +1,12 @@
-use mathlib.Core.Path.{refl}
-use Rattle.evaluation.proofs.BlockLaws.{whole_answer}
-use Rattle.jumps.proofs.RegionLaws.{all_fixed, start_reached}
+use Rattle.model.proofs.Results.{stopped}
+use Rattle.evaluation.proofs.BlockLaws.{answer_refused, answer_left, answer_accepted}
 use Rattle.evaluation.proofs.evaluate.Goals as goal
 
-pub region_words-regions-requires : goal.region_words-regions-requires
-region_words-regions-requires c = c.requires.settled.checked.few_regions
+pub returns-in_err-progress : goal.returns-in_err-progress
+returns-in_err-progress c = rw (stopped _ _ c.from_residual.ensures.1) (answer_refused c.proof_start.ensures c.in_err-progress.ensures)
 
-pub evaluate_blocks-judged-requires : goal.evaluate_blocks-judged-requires
-evaluate_blocks-judged-requires c = record { fixed = all_fixed c.requires.settled c.region_words-regions.ensures; workspace = c.requires.workspace; reached = start_reached c.requires.settled }
+pub returns-then-progress-setting : goal.returns-then-progress-setting
+returns-then-progress-setting c = λ policy routine s. answer_left c.proof_start.ensures c.in_ok-progress.ensures policy routine s c.if-progress-setting.true
 
 pub returns : goal.returns
-returns c = whole_answer c.evaluate_blocks-judged.ensures refl c.answer.ensures
+returns c = λ policy routine s. answer_accepted c.proof_start.ensures c.in_ok-progress.ensures policy routine s c.if-progress-setting.false

@@ -1,15 +1,19 @@
-use borrow.Enum.Refused.{opened}
 use Rattle.expressions.proofs.ReadingLaws as laws
+use Rattle.model.proofs.Results.{stopped}
 use Rattle.expressions.proofs.atoms.Goals as goal
 
-pub loop-left-init : goal.loop-left-init
-loop-left-init c = laws.going_start _ _ _ _ _
+pub loop-init : goal.loop-init
+loop-init c = laws.going_start _ _ _ _ _
 
-pub returns-then-left-eq0 : goal.returns-then-left-eq0
-returns-then-left-eq0 c = laws.atoms_read _ _ _ _ _ _ _ c.loop-left.invariant c.if-left-eq0.true
+pub returns-in_err-next-clause-ends : goal.returns-in_err-next-clause-ends
+returns-in_err-next-clause-ends c =
+    rw (stopped _ _ c.from_residual.ensures.1) (laws.atoms_stop _ _ _ _ _ _ _ c.loop.invariant c.loop-test.true _ c.in_err-next.ensures.ends)
 
-pub returns-in_default : goal.returns-in_default
-returns-in_default c = laws.atoms_stop _ _ _ _ _ _ _ c.loop-left.invariant c.if-left-eq0.false _ c.atom-one.ensures (opened c.in_default.in_default-own.keys2)
+pub loop-preserved : goal.loop-preserved
+loop-preserved c = laws.going_on _ _ _ _ _ _ _ c.loop.invariant c.loop-test.true _ c.in_ok-next.ensures.ends c.in_ok-next.ensures.inside
 
-pub loop-left-preserved : goal.loop-left-preserved
-loop-left-preserved c = laws.going_on _ _ _ _ _ _ _ c.loop-left.invariant c.if-left-eq0.false _ c.atom-one.ensures _ c.in-Next.is
+pub returns-clause-ends : goal.returns-clause-ends
+returns-clause-ends c = laws.atoms_read _ _ _ _ _ _ _ c.loop.invariant c.loop-test.false
+
+pub returns-clause-inside : goal.returns-clause-inside
+returns-clause-inside c = c.loop.invariant.inside

@@ -1,9 +1,5 @@
-use Prim.Native.Nat.{◌≤◌, ◌-◌}
 use Rattle.forms.specs.Area.{Taken}
 use Rattle.forms.proofs.empty_coefficients.Given as goal
 
 abbrev pub invariant-loop-v : goal.invariant-loop-v
-invariant-loop-v l = Taken l.initial.ws l.ws l.v l.zero × (l.v ≤ l.variables)
-
-abbrev pub decreases-loop-v : goal.decreases-loop-v
-decreases-loop-v l = l.variables - l.v
+invariant-loop-v l = Taken l.initial.ws l.ws l.v l.zero

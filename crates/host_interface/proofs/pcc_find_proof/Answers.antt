@@ -1,5 +1,6 @@
+use mathlib.Core.Path.{refl}
 use Rattle.host_interface.proofs.Laws as laws
 use Rattle.host_interface.proofs.pcc_find_proof.Goals as goal
 
 pub returns : goal.returns
-returns c = laws.find_left _ _ _ _ _ c.find_answer-finding.ensures c.start.ensures c.find_proof.ensures.contents c.put_three.ensures
+returns c = laws.find_left _ _ _ _ _ c.find_answer-finding.ensures c.start-start.ensures c.find_proof.ensures.contents refl

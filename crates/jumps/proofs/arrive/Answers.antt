@@ -1,19 +1,23 @@
 use native.Mathlib.Omega.{arith}
-use Rattle.jumps.proofs.Jumping.{place_inside, arrival_asks, arrived_at, arrived_nowhere}
-use mathlib.Core.Path.{refl}
+use Rattle.setting.proofs.Standing.{found_inside}
+use Rattle.model.proofs.Results.{stopped}
+use Rattle.jumps.proofs.Jumping.{found_before_proof, arrived_at, arrival_stopped, arrived_nowhere}
 use Rattle.jumps.proofs.arrive.Goals as goal
 
 pub returns-in_default : goal.returns-in_default
-returns-in_default c = arrived_nowhere c.requires.tables _ c.position-found.ensures refl c.in_default.is
+returns-in_default c = arrived_nowhere c.position.ensures c.in_default.is
 
-pub offset_bounds-places-k : goal.offset_bounds-places-k
-offset_bounds-places-k c = omega (arith, place_inside c.requires.tables _ c.position-found.ensures c.in-At.is, c.requires.tables.tabled.places_long)
+pub offset_bounds-setting-k : goal.offset_bounds-setting-k
+offset_bounds-setting-k c = omega (arith, found_inside c.args.setting.now.annotations_fit _ c.position.ensures c.in-Some.is, c.args.setting.now.annotations_fit.long, c.args.setting.now.routine.fits.noted)
 
-pub bounds-places-k : goal.bounds-places-k
-bounds-places-k c = place_inside c.requires.tables _ c.position-found.ensures c.in-At.is
+pub bounds-setting-k : goal.bounds-setting-k
+bounds-setting-k c = found_inside c.args.setting.now.annotations_fit _ c.position.ensures c.in-Some.is
 
-pub arrival-judged-requires : goal.arrival-judged-requires
-arrival-judged-requires c = record { end_in_bounds = arrival_asks c.requires.tables _ c.position-found.ensures c.in-At.is c.wide-at.ensures; going = c.requires.going; node_in = c.requires.node_in }
+pub arrival-requires-clause-at_in_bounds : goal.arrival-requires-clause-at_in_bounds
+arrival-requires-clause-at_in_bounds c = found_before_proof c.args.setting.now _ c.position.ensures c.in-Some.is _
+
+pub returns-in_err-after : goal.returns-in_err-after
+returns-in_err-after c = rw (stopped _ _ c.from_residual.ensures.1) (arrival_stopped c.position.ensures c.in-Some.is _ c.in_err-after.ensures)
 
 pub returns : goal.returns
-returns c = arrived_at c.requires.tables _ c.position-found.ensures refl c.in-At.is c.wide-at.ensures c.arrival-judged.ensures
+returns c = arrived_at c.position.ensures c.in-Some.is _ c.in_ok-after.ensures

@@ -1,21 +1,26 @@
-use borrow.Enum.Refused.{opened}
-use Rattle.logic_rules.proofs.LogicLaws.{assumption_asks, assumption_differs, assumption_fits, assumption_past}
-use Rattle.claims.proofs.PlanLaws.{not_atom}
+use Rattle.logic_rules.proofs.LogicLaws.{assumption_found, past_assumptions}
+use Rattle.claims.proofs.PlanLaws.{fits_if, formed_at, misfits, stays}
 use Rattle.model.specs.Rule.{premises}
+use Rattle.model_laws.proofs.Steps.{goes_on, stops}
+use Rattle.std.proofs.Common.{refl}
 use Rattle.logic_rules.proofs.assumed.Goals as goal
 
-pub returns-in_default : goal.returns-in_default
+pub returns-in_err-claimed : goal.returns-in_err-claimed
 unfolding premises
-returns-in_default c = not_atom c.args.claim _ c.requires.formed (opened c.in_default.in_default-own.keys2) c.unfit.ensures
+returns-in_err-claimed c = misfits (stays c.requires.formed) c.from_residual.ensures.0 (λ policy g _. stops _ (c.in_err-claimed.ensures.is _))
 
 pub returns-then-count-index : goal.returns-then-count-index
-returns-then-count-index c = assumption_past _ _ c.requires.formed _ c.in-Atom.is c.if-count-index.true c.unfit-then-count-index.ensures
+unfolding premises
+returns-then-count-index c = misfits (stays c.requires.formed) refl (λ policy g o. goes_on _ (c.in_ok-claimed.ensures.is _) (stops _ (past_assumptions _ _ _ o c.if-count-index.true)))
 
-pub is_assumption-requires : goal.is_assumption-requires
-is_assumption-requires c = let h = assumption_asks c.requires.formed c.requires.least_workspace_in_bounds c.requires.claim_below c.in-Atom.is c.if-count-index.false in record { k_lt_most_assumptions = h.0; formed = h.1.0; formed_2 = h.1.1.0; formed_3 = h.1.1.1.0; formed_4 = h.1.1.1.1 }
+pub is_assumption-requires-clause-left_formed : goal.is_assumption-requires-clause-left_formed
+is_assumption-requires-clause-left_formed c = formed_at c.requires.formed (c.in_ok-claimed.ensures.below _ c.requires.claim_below).0
 
-pub returns-then-is_assumption : goal.returns-then-is_assumption
-returns-then-is_assumption c = assumption_fits _ _ c.requires.formed _ c.in-Atom.is c.if-count-index.false c.is_assumption.ensures c.if-is_assumption.true c.none.ensures
+pub is_assumption-requires-clause-right_formed : goal.is_assumption-requires-clause-right_formed
+is_assumption-requires-clause-right_formed c = formed_at c.requires.formed (c.in_ok-claimed.ensures.below _ c.requires.claim_below).1
 
-pub returns-else-is_assumption : goal.returns-else-is_assumption
-returns-else-is_assumption c = assumption_differs _ _ c.requires.formed _ c.in-Atom.is c.if-count-index.false c.is_assumption.ensures c.if-is_assumption.false c.unfit-else-is_assumption.ensures
+pub returns : goal.returns
+unfolding premises
+returns c =
+    fits_if _ (stays c.requires.formed) c.none_if.ensures.fits c.none_if.ensures.top
+    (λ policy g o. goes_on _ (c.in_ok-claimed.ensures.is _) (goes_on _ (assumption_found _ _ _ o c.if-count-index.false) (rw c.is_assumption.ensures)))

@@ -1,5 +1,8 @@
-use Rattle.logic_rules.proofs.LogicLaws.{contradiction_fits}
+use Rattle.claims.proofs.PlanLaws.{fits_one, stays}
+use Rattle.model.specs.Rule.{premises}
+use Rattle.std.proofs.Common.{refl}
 use Rattle.logic_rules.proofs.contradicted.Goals as goal
 
 pub returns : goal.returns
-returns c = λ ws f claimed. contradiction_fits claimed f c.requires c.compared.ensures c.one.ensures
+unfolding premises
+returns c = λ ws f claimed. fits_one (stays f) c.new.ensures (c.requires, c.requires) c.one.ensures (λ policy g _. refl)

@@ -1,28 +1,32 @@
-use borrow.Enum.Refused.{opened}
-use mathlib.Core.Path.{◌∙◌, sym}
-use Rattle.logic_rules.proofs.LogicLaws.{evaluation_fails, evaluation_fits, evaluation_left, evaluation_right}
-use Rattle.claims.proofs.PlanLaws.{formed_at, not_atom, told_below}
+use Rattle.std.proofs.Common.{sym, ◌∙◌}
+use Rattle.logic_rules.proofs.LogicLaws.{both_closed, left_open, right_open}
+use Rattle.claims.proofs.PlanLaws.{fits_if, formed_at, misfits, stays}
 use Rattle.model.specs.Rule.{premises}
+use Rattle.model_laws.proofs.Steps.{check_fails, goes_on, stops}
 use Rattle.logic_rules.proofs.evaluated.Goals as goal
 
-pub returns-in_default : goal.returns-in_default
+pub returns-in_err-claimed : goal.returns-in_err-claimed
 unfolding premises
-returns-in_default c = not_atom c.args.claim _ c.requires.formed (opened c.in_default.in_default-own.keys2) c.unfit.ensures
+returns-in_err-claimed c = misfits (stays c.requires.formed) c.from_residual.ensures.0 (λ policy g _. stops _ (c.in_err-claimed.ensures.is _))
 
 pub evaluate-requires : goal.evaluate-requires
-evaluate-requires c = formed_at c.requires.formed (told_below _ c.in-Atom.is c.requires.claim_below).0
+evaluate-requires c = formed_at c.requires.formed (c.in_ok-claimed.ensures.below _ c.requires.claim_below).0
 
-pub returns-in_default-evaluate : goal.returns-in_default-evaluate
-returns-in_default-evaluate c = evaluation_left _ c.requires.formed c.in-Atom.is (sym c.in_default-evaluate.is ∙ c.evaluate.ensures) c.unfit-in_default-evaluate.ensures
+pub returns-in_err-a : goal.returns-in_err-a
+unfolding premises
+returns-in_err-a c = misfits (stays c.requires.formed) c.from_residual-in_err-a.ensures.0 (λ policy g _. goes_on _ (c.in_ok-claimed.ensures.is _) (check_fails _ _ (left_open _ (sym c.in_err-a.ensures.ok_part ∙ c.evaluate.ensures))))
 
 pub evaluate-requires-2 : goal.evaluate-requires-2
-evaluate-requires-2 c = formed_at c.requires.formed (told_below _ c.in-Atom.is c.requires.claim_below).1
+evaluate-requires-2 c = formed_at c.requires.formed (c.in_ok-claimed.ensures.below _ c.requires.claim_below).1
 
-pub returns-in_default-evaluate-2 : goal.returns-in_default-evaluate-2
-returns-in_default-evaluate-2 c = evaluation_right _ c.requires.formed c.in-Atom.is (sym c.in-Value.is ∙ c.evaluate.ensures) (sym c.in_default-evaluate-2.is ∙ c.evaluate-2.ensures) c.unfit-in_default-evaluate-2.ensures
+pub returns-in_err-b : goal.returns-in_err-b
+unfolding premises
+returns-in_err-b c =
+    misfits (stays c.requires.formed) c.from_residual-in_err-b.ensures.0
+    (λ policy g _. goes_on _ (c.in_ok-claimed.ensures.is _) (check_fails _ _ (right_open _ (sym c.in_ok-a.ensures.ok_part ∙ c.evaluate.ensures) (sym c.in_err-b.ensures.ok_part ∙ c.evaluate-2.ensures))))
 
-pub returns-then-holds : goal.returns-then-holds
-returns-then-holds c = evaluation_fits _ c.requires.formed c.in-Atom.is (sym c.in-Value.is ∙ c.evaluate.ensures) (sym c.in-Value-evaluate.is ∙ c.evaluate-2.ensures) c.holds.ensures c.if-holds.true c.none.ensures
-
-pub returns-else-holds : goal.returns-else-holds
-returns-else-holds c = evaluation_fails _ c.requires.formed c.in-Atom.is (sym c.in-Value.is ∙ c.evaluate.ensures) (sym c.in-Value-evaluate.is ∙ c.evaluate-2.ensures) c.holds.ensures c.if-holds.false c.unfit-else-holds.ensures
+pub returns : goal.returns
+unfolding premises
+returns c =
+    fits_if _ (stays c.requires.formed) c.none_if.ensures.fits c.none_if.ensures.top
+    (λ policy g _. goes_on _ (c.in_ok-claimed.ensures.is _) (rw (both_closed _ (sym c.in_ok-a.ensures.ok_part ∙ c.evaluate.ensures) (sym c.in_ok-b.ensures.ok_part ∙ c.evaluate-2.ensures) c.holds.ensures)))

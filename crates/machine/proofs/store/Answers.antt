@@ -1,11 +1,8 @@
 use Rattle.machine.proofs.Steps as steps
 use Rattle.machine.proofs.store.Goals as goal
 
-pub put-requires : goal.put-requires
-put-requires c = (steps.inside _ _ _ _ _ c.writable.ensures c.if-writable.true, c.requires.low)
-
-pub returns-then-writable : goal.returns-then-writable
-returns-then-writable c = steps.stores _ _ _ _ _ _ _ _ _ _ c.word.ensures c.add.ensures c.wide-at.ensures _ c.writable.ensures c.if-writable.true _ c.word-w.ensures _ _ c.put.ensures
+pub returns-then-permits : goal.returns-then-permits
+returns-then-permits c = steps.stores _ _ _ _ _ _ _ _ _ c.word.ensures c.add-at.ensures _ c.permits.ensures c.if-permits.true _ c.word-w.ensures _ _ c.put.ensures
 
 pub returns : goal.returns
-returns c = steps.refuses_store _ _ _ _ _ _ _ _ _ _ c.word.ensures c.add.ensures c.wide-at.ensures _ c.writable.ensures c.if-writable.false
+returns c = steps.refuses_store _ _ _ _ _ _ _ _ _ c.word.ensures c.add-at.ensures _ c.permits.ensures c.if-permits.false

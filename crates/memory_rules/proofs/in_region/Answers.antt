@@ -1,25 +1,40 @@
+use Rattle.std.proofs.Common.{refl, sym, ◌∙◌}
+use denote.Enum.Bare.{differs_false, differs_true}
 use native.Mathlib.Omega.{arith}
-use Rattle.memory_rules.proofs.RegionLaws.{access_fits, access_misfits, region_fits_lem, region_none, region_without}
-use Rattle.claims.proofs.PlanLaws.{put_asks}
+use Rattle.model.specs.Rule.{region_premises}
+use Rattle.model.specs.contracts.Right.{the_type as right-type}
+use Rattle.model_laws.proofs.Steps.{check_fails, check_passes, goes_on, stops}
+use Rattle.claims.proofs.PlanLaws.{first_is, fits_two, kept_term, misfits, stays, two_put}
+use Rattle.memory_rules.proofs.RegionLaws.{access, is_region, no_region, not_accessed, other_access}
 use Rattle.memory_rules.proofs.in_region.Goals as goal
 
-pub returns-then-access-right : goal.returns-then-access-right
-returns-then-access-right c = access_misfits _ c.accessed-access.ensures c.requires.formed c.if-access-right.true c.unfit.ensures
+pub returns-in_err-asked : goal.returns-in_err-asked
+returns-in_err-asked c = misfits (stays c.requires.formed) c.from_residual.ensures.0 (λ policy g _. not_accessed policy g _ _ _ (c.in_err-asked.ensures.is _))
 
-pub returns-then-count-j : goal.returns-then-count-j
-returns-then-count-j c = access_fits _ c.accessed-access.ensures c.if-access-right.false (region_none _ _ _ c.requires.formed c.if-count-j.true c.unfit-then-count-j.ensures)
+pub returns-then-ne : goal.returns-then-ne
+returns-then-ne c = misfits (stays c.requires.formed) refl (λ policy g _. other_access policy g _ _ _ (c.in_ok-asked.ensures.is _) (differs_true right-type _ _ (sym c.if-ne.ensures)))
 
-pub overflow_add-base : goal.overflow_add-base
-overflow_add-base c = record { fits = c.requires.region_words.small _ c.if-count-j.false }
+pub returns-in_err-region : goal.returns-in_err-region
+unfolding region_premises
+returns-in_err-region c =
+    misfits (stays c.requires.formed) c.from_residual-in_err-region.ensures.0
+    (λ policy g o. stops _ (no_region o _ (c.in_err-region.ensures.variant ∙ c.get.ensures.lookup.0)) ∙ access policy g _ _ _ (c.in_ok-asked.ensures.is _) (differs_false right-type tt _ _ (sym c.if-ne.ensures)))
 
-pub put_constant-requires-then-rights-right : goal.put_constant-requires-then-rights-right
-put_constant-requires-then-rights-right c = let h = put_asks c.requires.space c.put_constant.ensures c.put_constant.auto.ws in record { formed = h.0; space = h.1 }
+pub returns-then-not-grants : goal.returns-then-not-grants
+unfolding region_premises
+returns-then-not-grants c =
+    misfits (stays c.requires.formed) refl
+    (λ policy g o.
+    goes_on _ (is_region o _ (c.in_ok-region.ensures.variant ∙ c.get.ensures.lookup.0) (rw c.in_ok-region.ensures.ok_part at c.get.ensures.lookup.1)) (check_fails _ _ (sym c.if-not-grants.ensures))
+    ∙ access policy g _ _ _ (c.in_ok-asked.ensures.is _) (differs_false right-type tt _ _ (sym c.if-ne.ensures)))
 
-pub overflow_add-top-then-rights-right-2 : goal.overflow_add-top-then-rights-right-2
-overflow_add-top-then-rights-right-2 c = omega (arith, c.requires.space.fits)
-
-pub returns-then-rights-right : goal.returns-then-rights-right
-returns-then-rights-right c = access_fits _ c.accessed-access.ensures c.if-access-right.false (region_fits_lem _ _ (c.accessed-access.ensures.below _ c.requires.claim_below) c.if-count-j.false c.if-rights-right.true c.put_constant.ensures c.put_constant-then-rights-right.ensures c.compared.ensures c.compared-then-rights-right.ensures c.two.ensures)
-
-pub returns-else-rights-right : goal.returns-else-rights-right
-returns-else-rights-right c = access_fits _ c.accessed-access.ensures c.if-access-right.false (region_without _ _ _ c.requires.formed c.if-count-j.false c.if-rights-right.false c.unfit-else-rights-right.ensures)
+pub returns : goal.returns
+unfolding region_premises
+returns c =
+    let m = two_put c.put_constant.ensures c.put_constant-2.ensures in
+    let t = c.in_ok-asked.ensures.below _ c.requires.claim_below in
+    fits_two m c.new.ensures (omega arith) c.new-2.ensures (omega arith) c.two.ensures
+    (λ policy g o.
+    goes_on _ (is_region o _ (c.in_ok-region.ensures.variant ∙ c.get.ensures.lookup.0) (rw c.in_ok-region.ensures.ok_part at c.get.ensures.lookup.1))
+    (check_passes _ _ (sym c.if-not-grants.ensures) (rw (first_is c.put_constant.ensures c.put_constant-2.ensures, c.put_constant-2.ensures.is, kept_term m.kept t)))
+    ∙ access policy g _ _ _ (c.in_ok-asked.ensures.is _) (differs_false right-type tt _ _ (sym c.if-ne.ensures)))

@@ -1,17 +1,18 @@
+use Rattle.model.proofs.Results.{stopped}
 use Rattle.policy.proofs.ConditionsLaws as laws
 use Rattle.policy.proofs.read_conditions.Goals as goal
 
-pub returns-in-Refused : goal.returns-in-Refused
-returns-in-Refused c = laws.first_stops _ _ _ _ c.read_condition.ensures _ c.in-Refused.is
+pub returns-in_err-read_condition-clause-read : goal.returns-in_err-read_condition-clause-read
+returns-in_err-read_condition-clause-read c = rw (stopped _ _ c.from_residual.ensures.1) (laws.first_stops _ _ _ _ c.in_err-read_condition.ensures.end)
 
-pub read_condition-requires-2 : goal.read_condition-requires-2
-read_condition-requires-2 c = (c.read_condition.ensures.passed _ c.in-Passed.is).inside
+pub returns-in_err-end-clause-read : goal.returns-in_err-end-clause-read
+returns-in_err-end-clause-read c = rw (stopped _ _ c.from_residual-in_err-end.ensures.1) (laws.second_stops _ _ _ _ c.in_ok-read_condition.ensures.stands _ c.in_err-end.ensures.end)
 
-pub returns-in-Refused-read_condition : goal.returns-in-Refused-read_condition
-returns-in-Refused-read_condition c = laws.second_stops _ _ _ _ c.read_condition.ensures _ c.in-Passed.is _ c.read_condition-2.ensures _ c.in-Refused-read_condition.is
+pub returns-then-end-bytes-clause-read : goal.returns-then-end-bytes-clause-read
+returns-then-end-bytes-clause-read c = laws.spare _ _ _ _ c.in_ok-read_condition.ensures.stands _ c.in_ok-end.ensures.stands c.if-end-bytes.true
 
-pub returns-then-end-bytes : goal.returns-then-end-bytes
-returns-then-end-bytes c = laws.spare _ _ _ _ c.read_condition.ensures _ c.in-Passed.is _ c.read_condition-2.ensures _ c.in-Passed-read_condition.is c.if-end-bytes.true
+pub returns-clause-read : goal.returns-clause-read
+returns-clause-read c = laws.both _ _ _ _ c.in_ok-read_condition.ensures.stands _ c.in_ok-end.ensures.stands c.if-end-bytes.false
 
-pub returns : goal.returns
-returns c = laws.both _ _ _ _ c.read_condition.ensures _ c.in-Passed.is _ c.read_condition-2.ensures _ c.in-Passed-read_condition.is c.if-end-bytes.false
+pub returns-clause-stand : goal.returns-clause-stand
+returns-clause-stand c = laws.both_stand _ _ _ _ c.in_ok-read_condition.ensures.stands _ c.in_ok-end.ensures.stands c.if-end-bytes.false

@@ -1,8 +1,8 @@
 use Rattle.policy_sizes.proofs.SizesLaws as laws
 use Rattle.policy_sizes.proofs.in_range.Goals as goal
 
-pub returns-then-least-number : goal.returns-then-least-number
-returns-then-least-number c = laws.inside _ _ _ _ c.if-least-number.true
+pub returns-then-contains : goal.returns-then-contains
+returns-then-contains c = laws.inside _ _ _ _ _ (rw (c.new.ensures.start, c.new.ensures.end, c.new.ensures.exhausted) at c.contains.ensures.value) c.if-contains.true
 
 pub returns : goal.returns
-returns c = laws.outside _ _ _ _ c.if-least-number.false
+returns c = laws.outside _ _ _ _ _ (rw (c.new.ensures.start, c.new.ensures.end, c.new.ensures.exhausted) at c.contains.ensures.value) c.if-contains.false

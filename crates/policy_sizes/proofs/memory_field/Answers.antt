@@ -1,8 +1,12 @@
-use Rattle.policy_sizes.proofs.SizesLaws as laws
+use Rattle.model.proofs.Results.{stopped}
+use Rattle.model.specs.Result.{◌>>=◌}
+use Rattle.policy_sizes.specs.Sizes.{memory_field}
 use Rattle.policy_sizes.proofs.memory_field.Goals as goal
 
-pub returns-then-bytes-lt8 : goal.returns-then-bytes-lt8
-returns-then-bytes-lt8 c = laws.no_word _ c.if-bytes-lt8.true
+pub returns-in_err-word_field : goal.returns-in_err-word_field
+unfolding memory_field ◌>>=◌
+returns-in_err-word_field c = rw (stopped _ _ c.from_residual.ensures.1, ← c.in_err-word_field.ensures)
 
 pub returns : goal.returns
-returns c = laws.a_word _ _ c.if-bytes-lt8.false (rw (← c.word.ensures) c.in_range.ensures)
+unfolding memory_field ◌>>=◌
+returns c = rw (← c.in_ok-word_field.ensures) c.in_range.ensures

@@ -1,33 +1,32 @@
-use mathlib.Core.Path.{sym}
-use Rattle.policy_sizes.specs.Sizes.{sizes_result}
-use Rattle.policy_sizes.proofs.SizesLaws as laws
-use Rattle.policy_sizes.proofs.SizesLaws.{sizes_by}
+use Rattle.model.proofs.Results.{stopped}
+use Rattle.model.specs.Result.{◌>>=◌}
+use Rattle.policy_sizes.proofs.SizesLaws.{sizes_by, by_fields}
 use Rattle.policy_sizes.proofs.read_sizes.Goals as goal
 
-pub returns-in-Refused : goal.returns-in-Refused
-unfolding sizes_by
-returns-in-Refused c = laws.off _ _ _ (laws.by_fields _) c.size_byte.ensures c.in-Refused.is
+pub returns-in_err-regions : goal.returns-in_err-regions
+unfolding sizes_by ◌>>=◌
+returns-in_err-regions c = rw (stopped _ _ c.from_residual.ensures.1, by_fields, ← c.in_err-regions.ensures)
 
-pub returns-in-Refused-size_byte : goal.returns-in-Refused-size_byte
-unfolding sizes_by
-returns-in-Refused-size_byte c = laws.off _ _ _ (laws.on _ _ _ (laws.by_fields _) c.size_byte.ensures c.in-Passed.is) c.size_byte-2.ensures c.in-Refused-size_byte.is
+pub returns-in_err-precondition : goal.returns-in_err-precondition
+unfolding sizes_by ◌>>=◌
+returns-in_err-precondition c = rw (stopped _ _ c.from_residual-in_err-precondition.ensures.1, by_fields, ← c.in_ok-regions.ensures, ← c.in_err-precondition.ensures)
 
-pub returns-in-Refused-size_byte-2 : goal.returns-in-Refused-size_byte-2
-unfolding sizes_by
-returns-in-Refused-size_byte-2 c = laws.off _ _ _ (laws.on _ _ _ (laws.on _ _ _ (laws.by_fields _) c.size_byte.ensures c.in-Passed.is) c.size_byte-2.ensures c.in-Passed-size_byte.is) c.size_byte-3.ensures c.in-Refused-size_byte-2.is
+pub returns-in_err-postcondition : goal.returns-in_err-postcondition
+unfolding sizes_by ◌>>=◌
+returns-in_err-postcondition c = rw (stopped _ _ c.from_residual-in_err-postcondition.ensures.1, by_fields, ← c.in_ok-regions.ensures, ← c.in_ok-precondition.ensures, ← c.in_err-postcondition.ensures)
 
-pub returns-in-Refused-size_byte-3 : goal.returns-in-Refused-size_byte-3
-unfolding sizes_by
-returns-in-Refused-size_byte-3 c = laws.off _ _ _ (laws.on _ _ _ (laws.on _ _ _ (laws.on _ _ _ (laws.by_fields _) c.size_byte.ensures c.in-Passed.is) c.size_byte-2.ensures c.in-Passed-size_byte.is) c.size_byte-3.ensures c.in-Passed-size_byte-2.is) c.size_byte-4.ensures c.in-Refused-size_byte-3.is
+pub returns-in_err-size_byte : goal.returns-in_err-size_byte
+unfolding sizes_by ◌>>=◌
+returns-in_err-size_byte c = rw (stopped _ _ c.from_residual-in_err-size_byte.ensures.1, by_fields, ← c.in_ok-regions.ensures, ← c.in_ok-precondition.ensures, ← c.in_ok-postcondition.ensures, ← c.in_err-size_byte.ensures)
 
-pub returns-in-Refused-memory_field : goal.returns-in-Refused-memory_field
-unfolding sizes_by
-returns-in-Refused-memory_field c = laws.off _ _ _ (laws.on _ _ _ (laws.on _ _ _ (laws.on _ _ _ (laws.on _ _ _ (laws.by_fields _) c.size_byte.ensures c.in-Passed.is) c.size_byte-2.ensures c.in-Passed-size_byte.is) c.size_byte-3.ensures c.in-Passed-size_byte-2.is) c.size_byte-4.ensures c.in_default.is) c.memory_field.ensures c.in-Refused-memory_field.is
+pub returns-in_err-memory : goal.returns-in_err-memory
+unfolding sizes_by ◌>>=◌
+returns-in_err-memory c = rw (stopped _ _ c.from_residual-in_err-memory.ensures.1, by_fields, ← c.in_ok-regions.ensures, ← c.in_ok-precondition.ensures, ← c.in_ok-postcondition.ensures, ← c.in_ok-size_byte.ensures, ← c.in_err-memory.ensures)
 
-pub returns-then-bytes-lt12 : goal.returns-then-bytes-lt12
-unfolding sizes_by
-returns-then-bytes-lt12 c = laws.no_limit _ _ (laws.on _ _ _ (laws.on _ _ _ (laws.on _ _ _ (laws.on _ _ _ (laws.on _ _ _ (laws.by_fields _) c.size_byte.ensures c.in-Passed.is) c.size_byte-2.ensures c.in-Passed-size_byte.is) c.size_byte-3.ensures c.in-Passed-size_byte-2.is) c.size_byte-4.ensures c.in_default.is) c.memory_field.ensures c.in-Passed-memory_field.is) c.if-bytes-lt12.true
+pub returns-in_err-limit : goal.returns-in_err-limit
+unfolding sizes_by ◌>>=◌
+returns-in_err-limit c = rw (stopped _ _ c.from_residual-in_err-limit.ensures.1, by_fields, ← c.in_ok-regions.ensures, ← c.in_ok-precondition.ensures, ← c.in_ok-postcondition.ensures, ← c.in_ok-size_byte.ensures, ← c.in_ok-memory.ensures, ← c.in_err-limit.ensures)
 
 pub returns : goal.returns
-unfolding sizes_by sizes_result
-returns c = rw (c.wide.ensures, c.wide-2.ensures, c.wide-3.ensures, c.word.ensures) (sym (laws.limit _ _ (laws.on _ _ _ (laws.on _ _ _ (laws.on _ _ _ (laws.on _ _ _ (laws.on _ _ _ (laws.by_fields _) c.size_byte.ensures c.in-Passed.is) c.size_byte-2.ensures c.in-Passed-size_byte.is) c.size_byte-3.ensures c.in-Passed-size_byte-2.is) c.size_byte-4.ensures c.in_default.is) c.memory_field.ensures c.in-Passed-memory_field.is) c.if-bytes-lt12.false))
+unfolding sizes_by ◌>>=◌
+returns c = rw (by_fields, ← c.in_ok-regions.ensures, ← c.in_ok-precondition.ensures, ← c.in_ok-postcondition.ensures, ← c.in_ok-size_byte.ensures, ← c.in_ok-memory.ensures, ← c.in_ok-limit.ensures)

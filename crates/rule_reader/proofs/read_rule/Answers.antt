@@ -1,29 +1,22 @@
-use Rattle.rule_reader.proofs.OpeningLaws.{begun, opens_missing, opens_plain, opens_unknown}
+use Rattle.std.proofs.lemmas.Result.{err_from_is_err_and}
+use Rattle.model.specs.Derivation.{rule_at}
+use Rattle.model_laws.proofs.Steps.{stops}
+use Rattle.rule_reader.proofs.OpeningLaws.{no_row, rule_opened, opened_unknown}
 use Rattle.rule_reader.proofs.read_rule.Goals as goal
 
-pub returns-then-size-at : goal.returns-then-size-at
-returns-then-size-at c = opens_missing c.requires.formed c.if-size-at.true
+pub returns-in_err-number-clause-answer : goal.returns-in_err-number-clause-answer
+unfolding rule_at
+returns-in_err-number-clause-answer c =
+    let p = err_from_is_err_and c.from_residual.result c.from_residual.ensures.1 in
+    rw (p.1, p.2) (stops _ c.in_err-number.ensures.answer)
 
-pub with_index-requires : goal.with_index-requires
-with_index-requires c = begun c.if-size-at.false c.wide_byte-number.ensures c.form_of.ensures c.in-Index.is
+pub returns-in_default-clause-answer : goal.returns-in_default-clause-answer
+returns-in_default-clause-answer c = opened_unknown _ _ _ c.in_ok-number.ensures.answer (no_row c.read_argument.new.ws _ (c.in_default.ensures.answer c.read_argument.new.ws))
 
-pub with_argument-requires : goal.with_argument-requires
-with_argument-requires c = record { begun = begun c.if-size-at.false c.wide_byte-number.ensures c.form_of.ensures c.in-Argument.is; opening = c.requires }
+pub returns-clause-answer : goal.returns-clause-answer
+returns-clause-answer c = rule_opened c.read_argument.new.ws _ (c.in-Some.ensures.answer c.read_argument.new.ws) c.in_ok-argument.ensures.answer
 
-pub with_region-requires : goal.with_region-requires
-with_region-requires c = begun c.if-size-at.false c.wide_byte-number.ensures c.form_of.ensures c.in-Region.is
-
-pub returns-in-Plain : goal.returns-in-Plain
-returns-in-Plain c = opens_plain c.requires.formed 0 (begun c.if-size-at.false c.wide_byte-number.ensures c.form_of.ensures c.in-Plain.is)
-
-pub returns-in-Index : goal.returns-in-Index
-returns-in-Index c = c.with_index.ensures _ c.requires.formed _
-
-pub returns-in-Argument : goal.returns-in-Argument
-returns-in-Argument c = c.with_argument.ensures
-
-pub returns-in-Region : goal.returns-in-Region
-returns-in-Region c = c.with_region.ensures _ c.requires.formed _
-
-pub returns-in-Unknown : goal.returns-in-Unknown
-returns-in-Unknown c = opens_unknown c.requires.formed (begun c.if-size-at.false c.wide_byte-number.ensures c.form_of.ensures c.in-Unknown.is)
+pub returns-clause-grown : goal.returns-clause-grown
+returns-clause-grown c =
+    let grown = c.in_ok-argument.ensures.grown in
+    record { kept = grown.kept; formed = grown.formed; found = (grown.found.0, c.in-Some.ensures.below c.in_ok-argument.argument.top grown.found.1 grown.found.2) }

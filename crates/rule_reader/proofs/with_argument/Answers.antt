@@ -1,13 +1,8 @@
-use Rattle.rule_reader.proofs.OpeningLaws.{opening_ready, opens_argument, opens_no_argument}
-use Rattle.term_reader.proofs.Building.{not_term}
-use native.Mathlib.Omega.{arith}
+use Rattle.rule_reader.proofs.OpeningLaws.{argument_refused, argument_found}
 use Rattle.rule_reader.proofs.with_argument.Goals as goal
 
-pub expression-answer-requires : goal.expression-answer-requires
-expression-answer-requires c = record { end_in_bounds = (omega arith, omega arith); ready = opening_ready c.requires.opening }
+pub returns-in_default-clause-answer : goal.returns-in_default-clause-answer
+returns-in_default-clause-answer c = argument_refused _ _ _ c.requires.registers c.in_default.ensures.answer (rw c.in_default.is at c.refusal.ensures)
 
-pub returns-in_default : goal.returns-in_default
-returns-in_default c = opens_no_argument c.requires.begun c.requires.opening c.expression-answer.result (not_term c.expression-answer.result c.in_default.not-Term) c.expression-answer.ensures c.refusal.ensures
-
-pub returns : goal.returns
-returns c = rw c.wide.ensures (opens_argument c.requires.begun c.requires.opening c.in-Term.ensures)
+pub returns-clause-answer : goal.returns-clause-answer
+returns-clause-answer c = argument_found _ _ _ c.requires.registers c.in-Ok.ensures.answer

@@ -1,8 +1,8 @@
 use Rattle.terms.proofs.NewNodes.{fits_shift, put_as_shift}
 use Rattle.terms.proofs.put_shift.Goals as goal
 
-pub put-requires : goal.put-requires
-put-requires c = record { formed = c.requires.formed; space = c.requires.space; fits = fits_shift c.requires.formed c.requires.count_le_most_count c.marks-a.ensures c.high.ensures c.wide.ensures c.shifted.ensures.0; facts_bound = c.shifted.ensures.1 }
+pub put-requires-clause-fits : goal.put-requires-clause-fits
+put-requires-clause-fits c = fits_shift c.requires.formed c.requires.few c.requires.part_below c.marks-a.ensures c.high.ensures c.is_closed.ensures c.size.ensures.0 c.facts-facts.ensures.value
 
 pub returns : goal.returns
-returns c = put_as_shift c.requires.formed c.requires.count_le_most_count c.marks-a.ensures c.high.ensures c.wide.ensures c.shifted.ensures.0 c.put.ensures
+returns c = put_as_shift c.requires.formed c.requires.few c.requires.part_below c.marks-a.ensures c.high.ensures c.is_closed.ensures c.size.ensures.0 c.facts-facts.ensures.value c.put.ensures

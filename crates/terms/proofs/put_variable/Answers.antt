@@ -1,6 +1,5 @@
 use Rattle.terms.proofs.NewNodes.{fits_variable}
-use native.Mathlib.Omega.{arith}
 use Rattle.terms.proofs.put_variable.Goals as goal
 
-pub put-requires : goal.put-requires
-put-requires c = record { formed = c.requires.formed; space = c.requires.space; fits = fits_variable _ _ c.requires.number_lt_most_variables; facts_bound = omega arith }
+pub put-requires-clause-fits : goal.put-requires-clause-fits
+put-requires-clause-fits c = fits_variable _ _ c.requires.known c.facts.ensures.value

@@ -1,22 +1,27 @@
-use mathlib.Core.Path.{refl}
-use Rattle.annotations.proofs.Tables.{next_below, note_start, note_more, note_refused, note_spare, note_done}
 use native.Mathlib.Omega.{arith}
+use mathlib.Core.Path.{refl}
+use Rattle.model.proofs.Results.{stopped}
+use Rattle.annotations.proofs.Tables.{note_start, note_more, note_refused, note_spare, note_done, note_tabled}
+use Rattle.annotations.specs.Annotations.{with_terms}
 use Rattle.annotations.proofs.reading.read_annotations.Goals as goal
 
 pub loop-count-init : goal.loop-count-init
-loop-count-init c = note_start _ _ _ _ _ c.requires.indexes_len.0 c.requires.indexes_len.1 refl
-
-pub narrow-requires : goal.narrow-requires
-narrow-requires c = omega (arith, next_below _ _ _ _ _ _ _ c.annotation-answer.ensures c.in-Next.is, c.requires.fits.few)
+loop-count-init c = rw c.annotation_start-at.ensures (note_start _ _ _ _ refl refl)
 
 pub loop-count-preserved : goal.loop-count-preserved
-loop-count-preserved c = note_more _ _ _ _ _ _ _ c.loop-count.invariant c.requires.fits.noted c.loop-count-test.true _ c.annotation-answer.ensures _ _ _ _ c.in-Next.is c.narrow.ensures c.narrow-in-Next.ensures
+loop-count-preserved c = note_more _ _ _ _ _ _ c.loop-count.invariant c.loop-count-test.true c.args.routine.now.fits.noted _ c.in_ok-read.ensures.is c.in_ok-read.ensures.inside
 
-pub returns-in-Refused : goal.returns-in-Refused
-returns-in-Refused c = note_refused _ _ _ _ _ _ _ c.loop-count.invariant c.requires.fits.noted c.loop-count-test.true _ c.annotation-answer.ensures _ c.in-Refused.is
+pub returns-in_err-read-clause-is : goal.returns-in_err-read-clause-is
+unfolding with_terms
+returns-in_err-read-clause-is c = rw (stopped _ _ c.from_residual.ensures.1) (note_refused _ _ _ _ _ _ c.loop-count.invariant c.loop-count-test.true c.args.routine.now.fits.noted _ c.in_err-read.ensures.is)
 
-pub returns-then-at-end : goal.returns-then-at-end
-returns-then-at-end c = note_spare _ _ _ _ _ _ _ c.loop-count.invariant c.requires.fits.noted c.loop-count-test.false _ c.proof_start-end.ensures (λ e. omega arith)
+pub returns-then-at-proof_start-clause-is : goal.returns-then-at-proof_start-clause-is
+unfolding with_terms
+returns-then-at-proof_start-clause-is c = note_spare _ _ _ _ _ _ c.loop-count.invariant (omega arith) (λ e. omega arith)
 
-pub returns : goal.returns
-returns c = note_done _ _ _ _ _ _ _ c.loop-count.invariant c.requires.fits.noted c.loop-count-test.false _ c.proof_start-end.ensures c.if-at-end.false
+pub returns-clause-is : goal.returns-clause-is
+unfolding with_terms
+returns-clause-is c = note_done _ _ _ _ _ _ c.loop-count.invariant (omega arith) (omega arith)
+
+pub returns-clause-tabled : goal.returns-clause-tabled
+returns-clause-tabled c = note_tabled _ _ _ _ _ _ c.loop-count.invariant (omega arith) c.args.routine.now.fits.noted

@@ -1,11 +1,18 @@
-use Rattle.claims.proofs.PartLaws.{assumption_is, entry_left, entry_right}
+use Rattle.std.proofs.Common.{refl, sym, ◌∙◌}
+use Rattle.claims.proofs.PartLaws.{assumption_is}
 use Rattle.claims.proofs.parts.is_assumption.Goals as goal
+use Rattle.claims.proofs.parts.is_assumption.Goals.{then-eq, else-eq}
 
-pub same-same_left-requires : goal.same-same_left-requires
-same-same_left-requires c = record { formed = c.requires.formed; formed_2 = entry_left _ _ c.get-known.ensures c.requires.formed_3 }
+pub returns-then-same : goal.returns-then-same
+returns-then-same c =
+    elim c.if-eq.branch [
+      | then-eq w ↦ assumption_is _ _ c.get-known.ensures _ (sym w.if-eq.true ∙ c.eq.ensures) (sym c.if-same.true ∙ w.value-is ∙ w.same.ensures) c.same-then-same.ensures
+      | else-eq w ↦ absurd cc
+    ]
 
-pub same-same_right-requires : goal.same-same_right-requires
-same-same_right-requires c = record { formed = c.requires.formed_2; formed_2 = entry_right _ _ c.get-known.ensures c.requires.formed_4 }
-
-pub returns : goal.returns
-returns c = assumption_is _ _ c.get-known.ensures _ _ _ c.tag.ensures c.tag-2.ensures c.same-same_left.ensures c.same-same_right.ensures
+pub returns-else-same : goal.returns-else-same
+returns-else-same c =
+    elim c.if-eq.branch [
+      | then-eq w ↦ c.if-same.false ∙ assumption_is _ _ c.get-known.ensures _ (sym w.if-eq.true ∙ c.eq.ensures) (sym c.if-same.false ∙ w.value-is ∙ w.same.ensures) refl
+      | else-eq w ↦ c.if-same.false ∙ assumption_is _ _ c.get-known.ensures _ (sym w.if-eq.false ∙ c.eq.ensures) refl refl
+    ]

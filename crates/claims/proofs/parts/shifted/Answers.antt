@@ -1,8 +1,13 @@
-use Rattle.claims.proofs.PartLaws.{shift_node, shift_none}
+use Rattle.model.specs.Rule.{shift_of}
+use Rattle.model_laws.proofs.Steps.{check_passes}
+use Rattle.nodes.proofs.Table.{node_built}
+use Rattle.std.proofs.Common.{refl}
+use Rattle.claims.proofs.PartLaws.{not_shift}
 use Rattle.claims.proofs.parts.shifted.Goals as goal
 
-pub returns-then-tag-eq5 : goal.returns-then-tag-eq5
-returns-then-tag-eq5 c = shift_node c.requires c.tag.ensures c.first.ensures c.second.ensures c.if-tag-eq5.true
+pub returns-in-Shift-clause-is : goal.returns-in-Shift-clause-is
+unfolding shift_of
+returns-in-Shift-clause-is c = rw (node_built c.requires.shaped c.in-Shift.ensures) (check_passes _ _ refl refl)
 
-pub returns-else-tag-eq5 : goal.returns-else-tag-eq5
-returns-else-tag-eq5 c = shift_none c.requires c.tag.ensures c.if-tag-eq5.false
+pub returns-in_default : goal.returns-in_default
+returns-in_default c = record { is = not_shift c.requires c.view.ensures c.in_default.not-Shift; below = tt }

@@ -1,12 +1,17 @@
-use borrow.Enum.Refused.{opened}
-use Rattle.claims.proofs.PartLaws.{sides_access, sides_other, sides_same}
+use Rattle.model.specs.Rule.{sides_of}
+use Rattle.model_laws.proofs.Steps.{check_fails, check_passes, goes_on, stops}
+use Rattle.std.proofs.Common.{refl, sym}
+use Rattle.claims.proofs.PartLaws.{is_misfit, same_kind}
 use Rattle.claims.proofs.parts.sides.Goals as goal
 
-pub returns-in_default : goal.returns-in_default
-returns-in_default c = sides_access _ (opened c.in_default.in_default-own.keys2)
+pub returns-in_err-own-clause-is : goal.returns-in_err-own-clause-is
+unfolding sides_of
+returns-in_err-own-clause-is c = λ ws. rw (is_misfit c.from_residual.ensures.0) (stops _ (c.in_err-own.ensures.is ws))
 
-pub returns-then-tag : goal.returns-then-tag
-returns-then-tag c = sides_same c.in-Atom.is c.tag.ensures c.tag-2.ensures c.if-tag.true
+pub returns-then-eq-clause-is : goal.returns-then-eq-clause-is
+unfolding sides_of
+returns-then-eq-clause-is c = λ ws. goes_on _ (c.in_ok-own.ensures.is ws) (check_passes _ _ (sym (same_kind _ _ c.if-eq.ensures)) refl)
 
-pub returns-else-tag : goal.returns-else-tag
-returns-else-tag c = sides_other c.in-Atom.is c.tag.ensures c.tag-2.ensures c.if-tag.false
+pub returns-else-eq-clause-is : goal.returns-else-eq-clause-is
+unfolding sides_of
+returns-else-eq-clause-is c = λ ws. goes_on _ (c.in_ok-own.ensures.is ws) (check_fails _ _ (sym (same_kind _ _ c.if-eq.ensures)))

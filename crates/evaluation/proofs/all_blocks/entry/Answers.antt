@@ -1,25 +1,19 @@
 use native.Mathlib.Omega.{arith}
-use mathlib.Core.Path.{◌∙◌}
-use Rattle.evaluation.proofs.BlockLaws.{entry_asks, entry_walk_asks, entry_arrives, entry_walks}
+use Rattle.model.proofs.Results.{stopped}
+use Rattle.evaluation.proofs.BlockLaws.{entry_room, entry_arrives, entry_stopped, entry_walk_room, entry_walk_credit, entry_walks}
 use Rattle.evaluation.proofs.all_blocks.entry.Goals as goal
 
-pub entry_block-block-requires : goal.entry_block-block-requires
-entry_block-block-requires c = record { workspace = c.requires.workspace; number_le_most_atoms = c.requires.fixed.settled.checked.few_precondition }
+pub returns-in_err-after : goal.returns-in_err-after
+returns-in_err-after c = rw (stopped _ _ c.from_residual.ensures.1) (entry_stopped c.entry_block-block.ensures c.in_err-after.ensures)
 
-pub arrive-arrived-requires : goal.arrive-arrived-requires
-arrive-arrived-requires c = let h = entry_asks c.requires.fixed (omega (arith, c.requires.workspace.words, c.entry_block-block.auto.ws)) c.entry_block-block.ensures c.requires.reached in record { tables = h.0; going = h.1.0; node_in = h.1.1.0; counter_le_most_instructions = h.1.1.1 }
+pub returns-in-Some : goal.returns-in-Some
+returns-in-Some c = entry_arrives c.entry_block-block.ensures (rw c.in-Some.is at c.in_ok-after.ensures)
 
-pub walk-requires : goal.walk-requires
-walk-requires c = let h = entry_walk_asks c.requires.fixed (omega (arith, c.requires.workspace.words, c.entry_block-block.auto.ws)) c.entry_block-block.ensures c.arrive-arrived.ensures c.arrive-arrived.auto.ws c.requires.reached in record { fixed = c.requires.fixed; room_for = h.0; node_in = h.1.0; reached = h.1.1.0; left_value = h.1.1.1 }
+pub walk-requires-clause-room_for : goal.walk-requires-clause-room_for
+walk-requires-clause-room_for c = entry_walk_room c.entry_block-block.ensures (rw c.in-None.is at c.in_ok-after.ensures) c.arrive.auto.ws (entry_room c.args.setting.now (omega (arith, c.requires.workspace.words, c.entry_block-block.auto.ws)) c.entry_block-block.ensures)
 
-pub shape_of-ws-in-At : goal.shape_of-ws-in-At
-shape_of-ws-in-At c = c.arrive-arrived.auto.ws ∙ c.entry_block-block.auto.ws
+pub walk-requires-clause-credit_in : goal.walk-requires-clause-credit_in
+walk-requires-clause-credit_in c = entry_walk_credit c.entry_block-block.ensures (rw c.in-None.is at c.in_ok-after.ensures)
 
-pub returns-in-At : goal.returns-in-At
-returns-in-At c = entry_arrives c.requires.fixed (omega (arith, c.requires.workspace.words, c.entry_block-block.auto.ws)) c.entry_block-block.ensures c.arrive-arrived.ensures c.in-At.is
-
-pub shape_of-ws-in-Nowhere : goal.shape_of-ws-in-Nowhere
-shape_of-ws-in-Nowhere c = c.walk.auto.ws ∙ c.arrive-arrived.auto.ws ∙ c.entry_block-block.auto.ws
-
-pub returns-in-Nowhere : goal.returns-in-Nowhere
-returns-in-Nowhere c = entry_walks c.requires.fixed (omega (arith, c.requires.workspace.words, c.entry_block-block.auto.ws)) c.entry_block-block.ensures c.arrive-arrived.ensures c.in-Nowhere.is c.walk.ensures
+pub returns-in-None : goal.returns-in-None
+returns-in-None c = entry_walks c.entry_block-block.ensures (rw c.in-None.is at c.in_ok-after.ensures) c.walk.ensures

@@ -1,37 +1,40 @@
-use mathlib.Core.Path.{◌∙◌}
-use Rattle.evaluation.proofs.WalkLaws.{walk_done, one_room, after_asks, walk_asks, walk_arrives, walk_goes, walk_ends, walk_refuses}
 use native.Mathlib.Omega.{arith}
+use Rattle.model.proofs.Results.{stopped}
+use Rattle.evaluation.proofs.WalkLaws.{walk_done, after_credit, walk_refuses, walk_ends, walk_arrives, walk_stops, walk_room, walk_credit, walk_goes}
 use Rattle.evaluation.proofs.walks.+walk.Goals as goal
 
 pub returns-then-left-eq0 : goal.returns-then-left-eq0
-returns-then-left-eq0 t c = walk_done c.requires.fixed _ c.if-left-eq0.true
+returns-then-left-eq0 t c = walk_done c.args.credit c.if-left-eq0.true
 
-pub fetch-instruction-requires : goal.fetch-instruction-requires
-fetch-instruction-requires t c = record { fits = c.requires.fixed.settled.fits; index_lt_instructions = omega (arith, c.requires.left_value, c.if-left-eq0.false) }
-
-pub advance-moved-requires : goal.advance-moved-requires
-advance-moved-requires t c = record { fixed = c.requires.fixed; room_for = one_room _ (omega (arith, c.if-left-eq0.false)) c.requires.room_for; node_in = c.requires.node_in; reached = c.requires.reached; formed = c.fetch-instruction.ensures.formed }
-
-pub arrive-arrived-requires : goal.arrive-arrived-requires
-arrive-arrived-requires t c = let h = after_asks c.requires.fixed _ c.requires.room_for c.requires.node_in (omega (arith, c.if-left-eq0.false)) c.fetch-instruction.ensures c.advance-moved.ensures c.in-On.is c.advance-moved.auto.ws in record { tables = h.0; going = h.1.0; node_in = h.1.1.0; counter_le_most_instructions = h.1.1.1 }
-
-pub walk-requires : goal.walk-requires
-walk-requires t c = (omega (arith, c.decreases, c.if-left-eq0.false), (c.requires.fixed, walk_asks c.requires.fixed _ c.requires.room_for c.requires.node_in (omega (arith, c.if-left-eq0.false)) c.fetch-instruction.ensures c.advance-moved.ensures c.in-On.is c.advance-moved.auto.ws c.arrive-arrived.ensures c.arrive-arrived.auto.ws c.requires.left_value))
-
-pub shape_of-ws-in-At : goal.shape_of-ws-in-At
-shape_of-ws-in-At t c = c.arrive-arrived.auto.ws ∙ c.advance-moved.auto.ws
-
-pub returns-in-At : goal.returns-in-At
-returns-in-At t c = walk_arrives c.requires.fixed _ c.requires.room_for c.requires.node_in (omega (arith, c.if-left-eq0.false)) c.fetch-instruction.ensures c.advance-moved.ensures c.in-On.is c.advance-moved.auto.ws c.arrive-arrived.ensures c.in-At.is
-
-pub shape_of-ws-in-Nowhere : goal.shape_of-ws-in-Nowhere
-shape_of-ws-in-Nowhere t c = c.walk.auto.ws ∙ c.arrive-arrived.auto.ws ∙ c.advance-moved.auto.ws
-
-pub returns-in-Nowhere : goal.returns-in-Nowhere
-returns-in-Nowhere t c = walk_goes c.requires.fixed _ c.requires.room_for c.requires.node_in (omega (arith, c.if-left-eq0.false)) c.fetch-instruction.ensures c.advance-moved.ensures c.in-On.is c.advance-moved.auto.ws c.arrive-arrived.ensures c.in-Nowhere.is c.walk.ensures
+pub returns-in_err-next : goal.returns-in_err-next
+returns-in_err-next t c = rw (stopped _ _ c.from_residual.ensures.1) (walk_refuses c.args.credit (omega (arith, c.if-left-eq0.false)) c.fetch-instruction.ensures c.in_err-next.ensures)
 
 pub returns-in-Ended : goal.returns-in-Ended
-returns-in-Ended t c = walk_ends c.requires.fixed _ c.requires.room_for c.requires.node_in (omega (arith, c.if-left-eq0.false)) c.fetch-instruction.ensures c.advance-moved.ensures c.in-Ended.is
+returns-in-Ended t c = walk_ends c.args.credit (omega (arith, c.if-left-eq0.false)) c.fetch-instruction.ensures (rw c.in-Ended.is at c.in_ok-next.ensures)
 
-pub returns-in-Refused : goal.returns-in-Refused
-returns-in-Refused t c = walk_refuses c.requires.fixed _ c.requires.room_for c.requires.node_in (omega (arith, c.if-left-eq0.false)) c.fetch-instruction.ensures c.advance-moved.ensures c.in-Refused.is
+pub arrive-requires-clause-credit_in : goal.arrive-requires-clause-credit_in
+arrive-requires-clause-credit_in t c = after_credit c.args.credit (omega (arith, c.if-left-eq0.false)) c.fetch-instruction.ensures c.requires.room_for c.requires.credit_in (rw c.in-On.is at c.in_ok-next.ensures) c.advance.auto.ws
+
+pub returns-in_err-done-in-On : goal.returns-in_err-done-in-On
+returns-in_err-done-in-On t c = rw (stopped _ _ c.from_residual-in_err-done-in-On.ensures.1)
+    (walk_stops c.args.credit (omega (arith, c.if-left-eq0.false)) c.fetch-instruction.ensures c.requires.room_for c.requires.credit_in (rw c.in-On.is at c.in_ok-next.ensures) c.advance.auto.ws c.in_err-done-in-On.ensures)
+
+pub returns-in-Some : goal.returns-in-Some
+returns-in-Some t c = walk_arrives c.args.credit (omega (arith, c.if-left-eq0.false)) c.fetch-instruction.ensures c.requires.room_for c.requires.credit_in (rw c.in-On.is at c.in_ok-next.ensures) c.advance.auto.ws (rw c.in-Some.is at c.in_ok-done-in-On.ensures)
+
+pub walk-requires : goal.walk-requires
+walk-requires t c =
+    let a = rw c.in-On.is at c.in_ok-next.ensures in
+    let b = rw c.in-None.is at c.in_ok-done-in-On.ensures in (
+      omega (arith, c.decreases, c.if-left-eq0.false),
+      (
+        walk_room c.args.credit (omega (arith, c.if-left-eq0.false)) c.fetch-instruction.ensures c.requires.room_for c.requires.credit_in a c.advance.auto.ws b c.arrive.auto.ws,
+        (
+          walk_credit c.args.credit (omega (arith, c.if-left-eq0.false)) c.fetch-instruction.ensures c.requires.room_for c.requires.credit_in a c.advance.auto.ws b,
+          (a.leads.1, omega (arith, a.leads.0.counter, c.requires.all_left, c.if-left-eq0.false)),
+        ),
+      ),
+    )
+
+pub returns-in-None : goal.returns-in-None
+returns-in-None t c = walk_goes c.args.credit (omega (arith, c.if-left-eq0.false)) c.fetch-instruction.ensures c.requires.room_for c.requires.credit_in (rw c.in-On.is at c.in_ok-next.ensures) c.advance.auto.ws (rw c.in-None.is at c.in_ok-done-in-On.ensures) c.walk.ensures

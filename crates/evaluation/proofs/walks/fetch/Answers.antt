@@ -1,8 +1,8 @@
 use Rattle.evaluation.proofs.WalkLaws.{fetched, not_fetched}
 use Rattle.evaluation.proofs.walks.fetch.Goals as goal
 
-pub returns-in-Passed : goal.returns-in-Passed
-returns-in-Passed c = fetched c.requires.index_lt_instructions c.instruction-answer.ensures c.in-Passed.is
+pub returns-in-Ok : goal.returns-in-Ok
+returns-in-Ok c = fetched c.args.setting.now c.requires c.in-Ok.ensures.is c.in-Ok.ensures.formed
 
-pub returns-in-Refused : goal.returns-in-Refused
-returns-in-Refused c = not_fetched c.requires.index_lt_instructions c.instruction-answer.ensures c.in-Refused.is
+pub returns-in-Err : goal.returns-in-Err
+returns-in-Err c = not_fetched c.args.setting.now c.requires c.in-Err.ensures.is

@@ -1,8 +1,10 @@
-use Rattle.header.proofs.Headers.{found_whole, found_refused}
+use Rattle.model.specs.Package.{finder_answer}
 use Rattle.header.proofs.finder.find_answer.Goals as goal
 
-pub returns-in-Passed : goal.returns-in-Passed
-returns-in-Passed c = found_whole c.read_header-answer.ensures c.in-Passed.is
+pub returns-in-Ok : goal.returns-in-Ok
+unfolding finder_answer
+returns-in-Ok c = rw (← c.in-Ok.ensures.is, finder_answer)
 
-pub returns-in-Refused : goal.returns-in-Refused
-returns-in-Refused c = found_refused c.read_header-answer.ensures _ _ c.in-Refused.is c.number.ensures c.place.ensures
+pub returns-in-Err : goal.returns-in-Err
+unfolding finder_answer
+returns-in-Err c = rw (← c.in-Err.ensures.is, c.number.ensures, c.place.ensures, finder_answer)

@@ -1,11 +1,8 @@
 use Rattle.moves.proofs.Assigning.{assigned_on, assigned_not}
 use Rattle.moves.proofs.assignments.assign.Goals as goal
 
-pub stepped-requires : goal.stepped-requires
-stepped-requires c = rw c.written.ensures c.requires.steps_lt_most_instructions.0
-
-pub returns-then-small : goal.returns-then-small
-returns-then-small c = assigned_on _ _ _ _ c.small.ensures c.if-small.true c.written.ensures c.stepped.ensures
+pub returns-then-not-small : goal.returns-then-not-small
+returns-then-not-small c = assigned_not _ _ _ _ c.small.ensures c.if-not-small.true
 
 pub returns : goal.returns
-returns c = assigned_not _ _ _ _ c.small.ensures c.if-small.false
+returns c = assigned_on _ _ _ _ c.small.ensures c.if-not-small.false c.written.ensures c.stepped-after.ensures
