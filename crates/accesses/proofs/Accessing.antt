@@ -14,8 +14,7 @@ use Rattle.model.specs.declared.Right.TheVariants.{Read, Write}
 use Rattle.model.specs.Expression.{register_count}
 use Rattle.nodes.specs.Table.{place, term_at, Put}
 use Rattle.workspace.proofs.Frames.{same_trans, same_within}
-use Rattle.setting.specs.declared.Setting.{Setting}
-use Rattle.setting.proofs.Standing.{regions_stand}
+use Rattle.model.specs.declared.Region.{Region}
 use Rattle.paths.specs.declared.Path.{Path}
 use Rattle.refusals.specs.declared.Refused.{Refused}
 use Rattle.goals.specs.declared.Progress.{Progress}
@@ -80,29 +79,29 @@ claim_means us Write node = refl
 
 module _ {ws us : List ℕ} {path raised : Path} {count node : ℕ} {t : Term} (right : Right) {claim : NodeClaim} (b : Built ws us path count node t) (is-raised : raised ≡ raised_to path (path.top + count)) (is-claim : claim ≡ access_claim_at right node) where
   -- what comes of it
-  pub address_judged : {vs : List ℕ} {setting : Setting} {p : Progress} {r : Result Progress Refused} → RoomFor ws path 1 → GoalJudged us vs setting raised p r (claim_of us claim)
-      → AddressJudged ws vs setting path (access_claim right t) p r
-  address_judged {vs} {setting} {p} {r} g j =
-      let h : GoalJudged us vs setting (raised_to path (path.top + count)) p r (access_claim right (term_at us node)) =
-      subst (λ (c : Claim). GoalJudged us vs setting (raised_to path (path.top + count)) p r c) (ap (claim_of us) is-claim ∙ claim_means us right node) (subst (λ (q : Path). GoalJudged us vs setting q p r (claim_of us claim)) is-raised j) in
+  pub address_judged : {vs : List ℕ} {bytes : List ℕ} {regions : List Region} {p : Progress} {r : Result Progress Refused} → RoomFor ws path 1 → GoalJudged us vs bytes regions raised p r (claim_of us claim)
+      → AddressJudged ws vs bytes regions path (access_claim right t) p r
+  address_judged {vs} {bytes} {regions} {p} {r} g j =
+      let h : GoalJudged us vs bytes regions (raised_to path (path.top + count)) p r (access_claim right (term_at us node)) =
+      subst (λ (c : Claim). GoalJudged us vs bytes regions (raised_to path (path.top + count)) p r c) (ap (claim_of us) is-claim ∙ claim_means us right node) (subst (λ (q : Path). GoalJudged us vs bytes regions q p r (claim_of us claim)) is-raised j) in
       let k : Kept ws us path = kept_same path g.path_in.prepared.assumed.few b.same in
       record {
-        judges = λ policy e. subst (λ (c : Goal). Judges setting.routine.bytes.now policy (c ∷ []) p r) (ap₂ (λ (s : ModelPath) (x : Term). goal_of s (access_claim right x)) (path_equal k g.path_in) b.means) (h.judges policy e);
+        judges = λ policy e. subst (λ (c : Goal). Judges bytes policy (c ∷ []) p r) (ap₂ (λ (s : ModelPath) (x : Term). goal_of s (access_claim right x)) (path_equal k g.path_in) b.means) (h.judges policy e);
         kept = kept_same path g.path_in.prepared.assumed.few (same_trans b.same (same_within 0 (place path.top) (omega arith) (omega arith) h.left.kept));
         reached = h.left.reached;
       }
 
 -- ---- what follows it
-module _ {ws vs : List ℕ} {setting : Setting} {path : Path} {claim : Claim} {p : Progress} where
-  pub access_stopped : (s : ModelPath) {x : Refused} → AddressJudged ws vs setting path claim p (Err x) → Accesses ws vs setting (goes (goal_of (path_of ws path) claim ∷ []) s) path p (Err x)
-  access_stopped s a = record { moves = λ credit. record { judged = λ policy routine h. move_stopped s (a.judges policy (regions_stand setting h)); kept = a.kept; leads = tt } }
+module _ {ws vs : List ℕ} {bytes : List ℕ} {regions : List Region} {path : Path} {claim : Claim} {p : Progress} where
+  pub access_stopped : (s : ModelPath) {x : Refused} → AddressJudged ws vs bytes regions path claim p (Err x) → Accesses ws vs bytes regions (goes (goal_of (path_of ws path) claim ∷ []) s) path p (Err x)
+  access_stopped s a = record { moves = λ credit. record { judged = λ policy routine h. move_stopped s (a.judges policy h); kept = a.kept; leads = tt } }
 
-  module _ {q : Progress} (a : AddressJudged ws vs setting path claim p (Ok q)) where
+  module _ {q : Progress} (a : AddressJudged ws vs bytes regions path claim p (Ok q)) where
     access_goes : {xs : List ℕ} {after : Path} (s : ModelPath) → path_of xs after ≡ s → Kept vs xs path → Advanced xs path after
-        → Accesses ws xs setting (goes (goal_of (path_of ws path) claim ∷ []) s) path p (Ok (On after q))
+        → Accesses ws xs bytes regions (goes (goal_of (path_of ws path) claim ∷ []) s) path p (Ok (On after q))
     access_goes {xs} {after} s means k d = record {
       moves = λ credit. record {
-        judged = λ policy routine h. subst (λ (u : ModelPath). MoveJudged setting.routine.bytes.now policy routine credit xs (goes (goal_of (path_of ws path) claim ∷ []) u) p (Ok (On after q))) means (move_on (a.judges policy (regions_stand setting h)));
+        judged = λ policy routine h. subst (λ (u : ModelPath). MoveJudged bytes policy routine credit xs (goes (goal_of (path_of ws path) claim ∷ []) u) p (Ok (On after q))) means (move_on (a.judges policy h));
         kept = kept_then a.kept k;
         leads = (d, a.reached);
       };
@@ -113,9 +112,9 @@ module _ {ws vs : List ℕ} {setting : Setting} {path : Path} {claim : Claim} {p
       same = path_equal a.kept g.path_in
 
       pub store_goes : {after : Path} → length vs ≡ length ws → after ≡ stepped_to path (path.counter + 1)
-          → Accesses ws vs setting (goes (goal_of (path_of ws path) claim ∷ []) (onward (path_of ws path))) path p (Ok (On after q))
+          → Accesses ws vs bytes regions (goes (goal_of (path_of ws path) claim ∷ []) (onward (path_of ws path))) path p (Ok (On after q))
       store_goes long h =
-          subst (λ (x : Path). Accesses ws vs setting (goes (goal_of (path_of ws path) claim ∷ []) (onward (path_of ws path))) path p (Ok (On x q))) (sym h)
+          subst (λ (x : Path). Accesses ws vs bytes regions (goes (goal_of (path_of ws path) claim ∷ []) (onward (path_of ws path))) path p (Ok (On x q))) (sym h)
           (access_goes (onward (path_of ws path)) (ap (λ (s : ModelPath). onward s) same) (kept_none path) (record {
             path_in = path_stepped (path_held a.kept g.path_in long) (path.counter + 1) (omega (arith, g.run));
             counter = refl;
@@ -127,6 +126,6 @@ module _ {ws vs : List ℕ} {setting : Setting} {path : Path} {claim : Claim} {p
             assumptions = omega arith;
           }))
 
-      pub load_goes : {xs : List ℕ} {d : ℕ} {after : Path} → Loads vs xs path d after → Accesses ws xs setting (goes (goal_of (path_of ws path) claim ∷ []) (onward (loading (path_of ws path) d))) path p (Ok (On after q))
+      pub load_goes : {xs : List ℕ} {d : ℕ} {after : Path} → Loads vs xs path d after → Accesses ws xs bytes regions (goes (goal_of (path_of ws path) claim ∷ []) (onward (loading (path_of ws path) d))) path p (Ok (On after q))
       load_goes {d = d} l =
           access_goes (onward (loading (path_of ws path) d)) (l.means ∙ ap (λ (s : ModelPath). onward (loading s d)) same) (kept_same path g.path_in.prepared.assumed.few l.same) l.advanced

@@ -13,12 +13,11 @@ use Rattle.claims.specs.declared.Claim.TheVariants.{Readable, Writable}
 use Rattle.paths.specs.Walking.{path_of, Kept}
 use Rattle.paths.specs.declared.Path.{Path}
 use Rattle.refusals.specs.declared.Refused.{Refused}
-use Rattle.setting.specs.declared.Setting.{Setting}
-use Rattle.setting.specs.Setting.{regions_in}
+use Rattle.model.specs.declared.Region.{Region}
 use Rattle.goals.specs.declared.Progress.{Progress}
 use Rattle.goals.specs.Judging.{Reached, Judges}
 use Rattle.moves.specs.declared.Moved.{Moved}
-use Rattle.moves.specs.Moves.{MovesIn, Advanced}
+use Rattle.moves.specs.Moves.{Moves, Advanced}
 
 -- what an access by a right claims of its address, and of the address's node
 abbrev pub access_claim : Right → Term → Claim
@@ -30,14 +29,14 @@ access_claim_at Read node = Readable node
 access_claim_at Write node = Writable node
 
 -- one claim of the path is derived, and its words are kept
-pub record AddressJudged (ws us : List ℕ) (setting : Setting) (path : Path) (claim : Claim) (p : Progress) (r : Result Progress Refused) : Type 0 where
-  pub judges : (policy : Policy) → policy.regions ≡ regions_in setting → Judges setting.routine.bytes.now policy (goal_of (path_of ws path) claim ∷ []) p r
+pub record AddressJudged (ws us : List ℕ) (bytes : List ℕ) (regions : List Region) (path : Path) (claim : Claim) (p : Progress) (r : Result Progress Refused) : Type 0 where
+  pub judges : (policy : Policy) → policy.regions ≡ regions → Judges bytes policy (goal_of (path_of ws path) claim ∷ []) p r
   pub kept : Kept ws us path
-  pub reached : IfOk r (Reached setting.routine.bytes.now)
+  pub reached : IfOk r (Reached bytes)
 
 -- an access goes by the policy's regions alone
-pub record Accesses (ws us : List ℕ) (setting : Setting) (m : Move) (path : Path) (p : Progress) (r : Result Moved Refused) : Type 0 where
-  pub moves : (credit : Term) → MovesIn ws us setting credit (λ _ _. m) path p r
+pub record Accesses (ws us : List ℕ) (bytes : List ℕ) (regions : List Region) (m : Move) (path : Path) (p : Progress) (r : Result Moved Refused) : Type 0 where
+  pub moves : (credit : Term) → Moves ws us bytes (λ policy _. policy.regions ≡ regions) credit (λ _ _. m) path p r
 
 -- a register takes the next variable
 pub record Loads (ws us : List ℕ) (path : Path) (d : ℕ) (after : Path) : Type 0 where

@@ -10,6 +10,7 @@ ghost use Rattle.moves.specs.Moves.{RoomFor};
 ghost use Rattle.accesses.specs.Accesses.{access_claim_at, access_claim, AddressJudged, Accesses, Loads};
 
 use claims::Claim;
+use derivation::Grounds;
 use goals;
 use goals::Progress;
 use model::Right;
@@ -17,7 +18,6 @@ use moves::{Moved, assignments};
 use nodes::Operation;
 use paths::Path;
 use refusals::Refused;
-use setting::Setting;
 
 // What an access by a right claims of the node of its address.
 fn access_claim(right: Right, address: usize) -> Claim
@@ -31,7 +31,7 @@ fn access_claim(right: Right, address: usize) -> Claim
 
 // Derives the goal that a right allows the access at a + i.
 fn address_goal(
-    setting: &Setting,
+    grounds: &Grounds,
     ws: &mut [u32],
     path: Path,
     right: Right,
@@ -41,13 +41,13 @@ fn address_goal(
 ) -> Result<Progress, Refused>
     requires register { a < register_count }
     requires room_for { RoomFor ws.old path 1 }
-    requires reached { Reached setting.now.routine.bytes.now progress }
-    ensures { AddressJudged ws.old ws.new setting.now path (access_claim right (address_term (path_of ws.old path) a i)) progress result }
+    requires reached { Reached grounds.now.bytes.now progress }
+    ensures { AddressJudged ws.old ws.new grounds.now.bytes.now grounds.now.regions.now path (access_claim right (address_term (path_of ws.old path) a i)) progress result }
 {
     let top = path.top;
     assignments::put_with(ws, path, Operation::Sum, a, i);
     let claim = access_claim(right, top + 1);
-    goals::goal(setting, ws, path.raised(top + 2), claim, progress)
+    goals::goal(grounds, ws, path.raised(top + 2), claim, progress)
 }
 
 // The path whose register d is the next variable.
@@ -65,7 +65,7 @@ fn loaded(ws: &mut [u32], path: Path, d: u8) -> Path
 
 // d := Mem[a + i]
 pub fn load(
-    setting: &Setting,
+    grounds: &Grounds,
     ws: &mut [u32],
     path: Path,
     d: u8,
@@ -75,17 +75,17 @@ pub fn load(
 ) -> Result<Moved, Refused>
     requires registers { (d < register_count) × (a < register_count) }
     requires room_for { RoomFor ws.old path 1 }
-    requires reached { Reached setting.now.routine.bytes.now progress }
-    ensures { Accesses ws.old ws.new setting.now (goes (goal_of (path_of ws.old path) (readable (address_term (path_of ws.old path) a i)) ∷ []) (onward (loading (path_of ws.old path) d))) path progress result }
+    requires reached { Reached grounds.now.bytes.now progress }
+    ensures { Accesses ws.old ws.new grounds.now.bytes.now grounds.now.regions.now (goes (goal_of (path_of ws.old path) (readable (address_term (path_of ws.old path) a i)) ∷ []) (onward (loading (path_of ws.old path) d))) path progress result }
 {
     let right = Right::Read;
-    let after = address_goal(setting, ws, path, right, a, i, progress)?;
+    let after = address_goal(grounds, ws, path, right, a, i, progress)?;
     Ok(Moved::On(loaded(ws, path, d), after))
 }
 
 // Mem[a + i] := d
 pub fn store(
-    setting: &Setting,
+    grounds: &Grounds,
     ws: &mut [u32],
     path: Path,
     a: u8,
@@ -94,10 +94,10 @@ pub fn store(
 ) -> Result<Moved, Refused>
     requires register { a < register_count }
     requires room_for { RoomFor ws.old path 1 }
-    requires reached { Reached setting.now.routine.bytes.now progress }
-    ensures { Accesses ws.old ws.new setting.now (goes (goal_of (path_of ws.old path) (writable (address_term (path_of ws.old path) a i)) ∷ []) (onward (path_of ws.old path))) path progress result }
+    requires reached { Reached grounds.now.bytes.now progress }
+    ensures { Accesses ws.old ws.new grounds.now.bytes.now grounds.now.regions.now (goes (goal_of (path_of ws.old path) (writable (address_term (path_of ws.old path) a i)) ∷ []) (onward (path_of ws.old path))) path progress result }
 {
     let right = Right::Write;
-    let after = address_goal(setting, ws, path, right, a, i, progress)?;
+    let after = address_goal(grounds, ws, path, right, a, i, progress)?;
     Ok(Moved::On(path.stepped(path.counter + 1), after))
 }

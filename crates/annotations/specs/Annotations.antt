@@ -1,6 +1,6 @@
 -- What the readers of annotations promise. Assumes nothing.
 use Rattle.std.specs.Prelude.{◌≡◌, List, [], map, ℕ, ◌≤◌, ◌<◌, length, get_or}
-use Rattle.model.specs.Result.{Result, Err, Ok}
+use Rattle.model.specs.Result.{Result, Err, Ok, map_ok}
 use Rattle.model.specs.Term.{constant}
 use Rattle.model.specs.Package.{proof_start}
 use Rattle.model.specs.Annotation.{Annotation, annotation_from}
@@ -11,8 +11,7 @@ use Rattle.annotations.specs.declared.reading.Annotated.{Annotated}
 
 -- an annotation without its terms: its index and the next position
 unfoldable pub read_of : Result (Annotation × ℕ) Refusal → Result AnnotationRead Refusal
-read_of (Err x) = Err x
-read_of (Ok (a, q)) = Ok (record { index = a.index; next = q })
+read_of r = map_ok (λ x. record { index = x.0.index; next = x.1 }) r
 
 -- the index is below n, and the next position no further than the section's end
 abbrev pub Inside : Header → AnnotationRead → Type 0
@@ -52,5 +51,4 @@ pub record Tabled (bytes : List ℕ) (h : Header) (list : List Annotated) : Type
 
 -- the annotations of a list with their terms, or the refusal
 unfoldable pub with_terms : List ℕ → Header → Result (List Annotated) Refusal → Result (List Annotation) Refusal
-with_terms bytes h (Ok list) = Ok (annotations_at bytes h list)
-with_terms bytes h (Err x) = Err x
+with_terms bytes h r = map_ok (annotations_at bytes h) r

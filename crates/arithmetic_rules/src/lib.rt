@@ -4,122 +4,148 @@
 ghost use Rattle.model.specs.Rule.{congruence, linear, zero_at_most, successor_at_most, below_successor, sum_no_overflow};
 ghost use Rattle.nodes.specs.Table.{Formed, Space};
 ghost use Rattle.claims.specs.Parts.{claim_of, ClaimBelow};
-ghost use Rattle.claims.specs.Plan.{new_nodes, Planned, Anywhere, asks, always};
+ghost use Rattle.claims.specs.Plan.{filled, new_nodes, Planned, Anywhere, asks, always};
 ghost use Rattle.arithmetic_rules.specs.Forms.{Linear};
 ghost use Rattle.arithmetic_rules.specs.Monotone.{monotone_premises};
 
 use claims::parts::Congruence;
-use claims::{Claim, Plan, Premise, parts, plans};
+use claims::{Claim, Plan, parts};
 use model::{Comparison, Misfit};
-use nodes::Operation;
+use nodes::{Atom, Operation};
 
 // Rule 11: a+b = c+d, a-b = c-d, or a masked with b = c masked with d, from a = c, b = d; shifts by one count of a and c, from a = c.
-pub fn congruent(ws: &[u32], claim: Claim, top: usize) -> Result<Plan, Misfit>
-    requires formed { Formed ws.now top }
-    requires claim_below { ClaimBelow top claim }
-    ensures { Planned Anywhere (asks congruence (claim_of ws.now claim)) ws.now ws.now top result }
+pub fn congruent(ws: &[u32], claim: Claim, plan: &mut Plan) -> Result<(), Misfit>
+    requires formed { Formed ws.now plan.old.top }
+    requires claim_below { ClaimBelow plan.old.top claim }
+    ensures { Planned Anywhere (asks congruence (claim_of ws.now claim)) ws.now ws.now plan.old.top (filled result plan.new) }
 {
     let (left, right) = parts::sides(claim, Comparison::Equal)?;
     let congruence = parts::same_operation(ws, left, right)?;
     match congruence {
-        Congruence::Pairs(a, b, c, d) => Ok(plans::two(
-            Premise::new(Comparison::Equal, a, c),
-            Premise::new(Comparison::Equal, b, d),
-            top,
-        )),
-        Congruence::Single(a, c) => Ok(plans::one(Premise::new(Comparison::Equal, a, c), top)),
+        Congruence::Pairs(a, b, c, d) => {
+            plan.ask([
+                Atom::new(Comparison::Equal, a, c),
+                Atom::new(Comparison::Equal, b, d),
+            ]);
+            Ok(())
+        }
+        Congruence::Single(a, c) => {
+            plan.ask([Atom::new(Comparison::Equal, a, c)]);
+            Ok(())
+        }
     }
 }
 
 // Rule 12: a = b when both have the same linear form.
-pub fn same_form(ws: &mut [u32], variables: usize, claim: Claim, top: usize) -> Result<Plan, Misfit>
-    requires formed { Formed ws.old top }
+pub fn same_form(
+    ws: &mut [u32],
+    variables: usize,
+    claim: Claim,
+    plan: &mut Plan,
+) -> Result<(), Misfit>
+    requires formed { Formed ws.old plan.old.top }
     requires linear { Linear ws.old variables claim }
-    requires claim_below { ClaimBelow top claim }
-    ensures { Planned Anywhere (asks linear (claim_of ws.old claim)) ws.old ws.new top result }
+    requires claim_below { ClaimBelow plan.old.top claim }
+    ensures { Planned Anywhere (asks linear (claim_of ws.old claim)) ws.old ws.new plan.old.top (filled result plan.new) }
 {
     let (a, b) = parts::sides(claim, Comparison::Equal)?;
-    plans::none_if(linear::same_form(ws, a, b, variables), top)
+    plan.ask_nothing_if(linear::same_form(ws, a, b, variables))
 }
 
 // Rule 13: 0 ≤ a.
-pub fn from_zero(ws: &[u32], claim: Claim, top: usize) -> Result<Plan, Misfit>
-    requires formed { Formed ws.now top }
-    requires claim_below { ClaimBelow top claim }
-    ensures { Planned Anywhere (asks zero_at_most (claim_of ws.now claim)) ws.now ws.now top result }
+pub fn from_zero(ws: &[u32], claim: Claim, plan: &mut Plan) -> Result<(), Misfit>
+    requires formed { Formed ws.now plan.old.top }
+    requires claim_below { ClaimBelow plan.old.top claim }
+    ensures { Planned Anywhere (asks zero_at_most (claim_of ws.now claim)) ws.now ws.now plan.old.top (filled result plan.new) }
 {
     let (zero, _) = parts::sides(claim, Comparison::AtMost)?;
-    plans::none_if(parts::is_constant(ws, zero, 0), top)
+    plan.ask_nothing_if(parts::is_constant(ws, zero, 0))
 }
 
 // Rule 14: a+b ≤ c+d from a ≤ c, b ≤ d, c ≤ c+d. Rule 15: a-b ≤ c-d from a ≤ c, d ≤ b, b ≤ a. There is no such rule of masks.
-pub fn monotone(ws: &[u32], claim: Claim, operation: Operation, top: usize) -> Result<Plan, Misfit>
-    requires formed { Formed ws.now top }
-    requires claim_below { ClaimBelow top claim }
-    ensures { Planned Anywhere (always (monotone_premises operation (claim_of ws.now claim))) ws.now ws.now top result }
+pub fn monotone(
+    ws: &[u32],
+    claim: Claim,
+    operation: Operation,
+    plan: &mut Plan,
+) -> Result<(), Misfit>
+    requires formed { Formed ws.now plan.old.top }
+    requires claim_below { ClaimBelow plan.old.top claim }
+    ensures { Planned Anywhere (always (monotone_premises operation (claim_of ws.now claim))) ws.now ws.now plan.old.top (filled result plan.new) }
 {
     let (left, right) = parts::sides(claim, Comparison::AtMost)?;
     let (a, b) = parts::operands(ws, left, operation)?;
     let (c, d) = parts::operands(ws, right, operation)?;
-    let first = Premise::new(Comparison::AtMost, a, c);
+    let first = Atom::new(Comparison::AtMost, a, c);
     match operation {
-        Operation::Sum => Ok(plans::three(
-            first,
-            Premise::new(Comparison::AtMost, b, d),
-            Premise::new(Comparison::AtMost, c, right),
-            top,
-        )),
-        Operation::Difference => Ok(plans::three(
-            first,
-            Premise::new(Comparison::AtMost, d, b),
-            Premise::new(Comparison::AtMost, b, a),
-            top,
-        )),
+        Operation::Sum => {
+            plan.ask([
+                first,
+                Atom::new(Comparison::AtMost, b, d),
+                Atom::new(Comparison::AtMost, c, right),
+            ]);
+            Ok(())
+        }
+        Operation::Difference => {
+            plan.ask([
+                first,
+                Atom::new(Comparison::AtMost, d, b),
+                Atom::new(Comparison::AtMost, b, a),
+            ]);
+            Ok(())
+        }
         Operation::Mask => Err(Misfit),
     }
 }
 
 // Rule 16: a+1 ≤ b from a < b.
-pub fn successor(ws: &[u32], claim: Claim, top: usize) -> Result<Plan, Misfit>
-    requires formed { Formed ws.now top }
-    requires claim_below { ClaimBelow top claim }
-    ensures { Planned Anywhere (asks successor_at_most (claim_of ws.now claim)) ws.now ws.now top result }
+pub fn successor(ws: &[u32], claim: Claim, plan: &mut Plan) -> Result<(), Misfit>
+    requires formed { Formed ws.now plan.old.top }
+    requires claim_below { ClaimBelow plan.old.top claim }
+    ensures { Planned Anywhere (asks successor_at_most (claim_of ws.now claim)) ws.now ws.now plan.old.top (filled result plan.new) }
 {
     let (left, b) = parts::sides(claim, Comparison::AtMost)?;
     let (a, unit) = parts::operands(ws, left, Operation::Sum)?;
     if parts::is_constant(ws, unit, 1) {
-        Ok(plans::one(Premise::new(Comparison::Less, a, b), top))
+        plan.ask([Atom::new(Comparison::Less, a, b)]);
+        Ok(())
     } else {
         Err(Misfit)
     }
 }
 
 // Rule 17: a ≤ b from a < b+1. Two new nodes.
-pub fn within_successor(ws: &mut [u32], claim: Claim, top: usize) -> Result<Plan, Misfit>
-    requires formed { Formed ws.old top }
-    requires space { Space ws.old top new_nodes }
-    requires claim_below { ClaimBelow top claim }
-    ensures { Planned Anywhere (asks below_successor (claim_of ws.old claim)) ws.old ws.new top result }
+pub fn within_successor(ws: &mut [u32], claim: Claim, plan: &mut Plan) -> Result<(), Misfit>
+    requires formed { Formed ws.old plan.old.top }
+    requires space { Space ws.old plan.old.top new_nodes }
+    requires claim_below { ClaimBelow plan.old.top claim }
+    ensures { Planned Anywhere (asks below_successor (claim_of ws.old claim)) ws.old ws.new plan.old.top (filled result plan.new) }
 {
+    let top = plan.top;
     let (a, b) = parts::sides(claim, Comparison::AtMost)?;
     terms::put_constant(ws, top, 1);
     terms::put_pair(ws, top + 1, Operation::Sum, b, top);
-    Ok(plans::one(Premise::new(Comparison::Less, a, top + 1), top + 2))
+    plan.top = top + 2;
+    plan.ask([Atom::new(Comparison::Less, a, top + 1)]);
+    Ok(())
 }
 
 // Rule 18: a ≤ a+b from a ≤ 4294967295-b. Two new nodes.
-pub fn no_overflow(ws: &mut [u32], claim: Claim, top: usize) -> Result<Plan, Misfit>
-    requires formed { Formed ws.old top }
-    requires space { Space ws.old top new_nodes }
-    requires claim_below { ClaimBelow top claim }
-    ensures { Planned Anywhere (asks sum_no_overflow (claim_of ws.old claim)) ws.old ws.new top result }
+pub fn no_overflow(ws: &mut [u32], claim: Claim, plan: &mut Plan) -> Result<(), Misfit>
+    requires formed { Formed ws.old plan.old.top }
+    requires space { Space ws.old plan.old.top new_nodes }
+    requires claim_below { ClaimBelow plan.old.top claim }
+    ensures { Planned Anywhere (asks sum_no_overflow (claim_of ws.old claim)) ws.old ws.new plan.old.top (filled result plan.new) }
 {
+    let top = plan.top;
     let (a, right) = parts::sides(claim, Comparison::AtMost)?;
     let (p, b) = parts::operands(ws, right, Operation::Sum)?;
-    if !term_walks::same(ws, a, p) {
+    if !term_walks::equal(ws, a, p) {
         return Err(Misfit);
     }
     terms::put_constant(ws, top, u32::MAX);
     terms::put_pair(ws, top + 1, Operation::Difference, top, b);
-    Ok(plans::one(Premise::new(Comparison::AtMost, a, top + 1), top + 2))
+    plan.top = top + 2;
+    plan.ask([Atom::new(Comparison::AtMost, a, top + 1)]);
+    Ok(())
 }

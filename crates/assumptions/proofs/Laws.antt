@@ -19,7 +19,8 @@ use Rattle.model.specs.declared.Comparison.TheVariants.{Equal, Unequal, Less, At
 use Rattle.nodes.specs.Table.{low, high, place, Formed}
 use Rattle.workspace.proofs.Frames.{same_within, set_before, set_after}
 use Rattle.nodes.proofs.Table.{term_same, formed_same}
-use Rattle.assumptions.specs.Area.{slot, kind_of, packed, unpacked, entry_of, atom_in, listed, Listed, Pushed}
+use Rattle.nodes.specs.Atoms.{atom_in}
+use Rattle.assumptions.specs.Area.{slot, kind_of, packed, unpacked, entry_of, listed, Listed, Pushed}
 
 -- ---- words that keep the area: the entries are the same
 module _ {ws us : List ℕ} where

@@ -5,8 +5,9 @@ use Rattle.model.specs.Expression.{comparisons}
 use Rattle.model.specs.declared.Comparison.{Comparison}
 use Rattle.model.specs.declared.Comparison.TheVariants.{Equal}
 use Rattle.workspace.specs.Layout.{assumption_base, most_assumptions, Same}
-use Rattle.nodes.specs.Table.{low, high, term_at}
-use Rattle.assumptions.specs.declared.Assumption.{Assumption}
+use Rattle.nodes.specs.Table.{low, high}
+use Rattle.nodes.specs.Atoms.{atom_in}
+use Rattle.nodes.specs.declared.Atom.{Atom as NodeAtom}
 
 -- where assumption k lies
 abbrev pub slot : ℕ → ℕ
@@ -20,16 +21,12 @@ kind_of bits = get_or comparisons bits Equal
 abbrev pub packed : (kind : Comparison) (left right : ℕ) → ℕ
 packed kind left right = tag_of kind + 4 * left + 65536 * right
 
-abbrev pub unpacked : ℕ → Assumption
+abbrev pub unpacked : ℕ → NodeAtom
 unpacked w = record { kind = kind_of (w % 4); left = low w / 4; right = high w }
 
 -- assumption k, its sides as nodes
-unfoldable pub entry_of : List ℕ → ℕ → Assumption
+unfoldable pub entry_of : List ℕ → ℕ → NodeAtom
 entry_of ws k = unpacked (get_or ws (slot k) 0)
-
--- an assumption as an atom
-abbrev pub atom_in : List ℕ → Assumption → Atom
-atom_in ws a = record { kind = a.kind; left = term_at ws a.left; right = term_at ws a.right }
 
 -- the first count assumptions, in order
 unfoldable pub listed : List ℕ → (count : ℕ) → List Atom

@@ -16,7 +16,7 @@ use Rattle.model.specs.declared.ReadError.{ReadError}
 use Rattle.model.specs.declared.ReadError.TheVariants.{Missing, Fault}
 use Rattle.model.specs.Expression.{comparisons, expression_at, atom_at}
 use Rattle.model.specs.declared.Comparison.{Comparison}
-use Rattle.leaf_reader.specs.Leaves.{over, mapped}
+use Rattle.leaf_reader.specs.Leaves.{over}
 use Rattle.term_reader.specs.Reader.{expression_over}
 use Rattle.atom_reader.specs.AtomReader.{atom_over}
 
@@ -50,24 +50,24 @@ right_side kind s y = y >>= (λ z. Ok (record { kind = kind; left = s; right = z
 
 module _ (σ : ℕ → Term) (kind : Comparison) where
   right_over : (s : Term) (y : Result (Term × ℕ) ReadError) → atom_over σ (right_side kind s y) ≡ right_side kind (over σ s) (expression_over σ y)
-  unfolding ◌>>=◌ mapped
+  unfolding ◌>>=◌
   right_over s (Err e) = refl
   right_over s (Ok z) = refl
 
   pub sides_over : (x : Result (Term × ℕ) ReadError) (y : ℕ → Result (Term × ℕ) ReadError) → atom_over σ (two_sides kind x y) ≡ two_sides kind (expression_over σ x) (λ q. expression_over σ (y q))
-  unfolding ◌>>=◌ mapped
+  unfolding ◌>>=◌
   sides_over (Err e) y = refl
   sides_over (Ok z) y = right_over z.0 (y z.1)
 
 -- ---- the atom at a position
 module _ (σ : ℕ → Term) (bytes : List ℕ) (end limit at : ℕ) where
   pub atom_missing : end ≤ at → Err Missing ≡ atom_over σ (atom_at bytes end limit at)
-  unfolding atom_at byte_at ◌>>=◌ check mapped
+  unfolding atom_at byte_at ◌>>=◌ check
   atom_missing h = rw (lt-leb (at + 1) end (omega arith))
 
   module _ (h : at < end) where
     pub atom_unknown : {e : ReadError} → get_elem? comparisons (get_or bytes at 0) ≡ none → e ≡ Fault at → Err e ≡ atom_over σ (atom_at bytes end limit at)
-    unfolding atom_at byte_at ◌>>=◌ check found mapped
+    unfolding atom_at byte_at ◌>>=◌ check found
     atom_unknown k f = rw (f, le-leb (at + 1) end (omega arith), k)
 
     module _ {kind : Comparison} (k : get_elem? comparisons (get_or bytes at 0) ≡ some kind) where
@@ -96,6 +96,6 @@ module _ (σ : ℕ → Term) (bytes : List ℕ) (end limit at : ℕ) where
         unfolding ◌>>=◌
         right_refused q = from_right q
 
-        pub atom_read : {b c : Term} {r : ℕ} → Ok (b, r) ≡ expression_over τ (expression_at bytes end limit p) → c ≡ a → Ok (record { kind = kind; left = c; right = b }, r) ≡ atom_over σ (atom_at bytes end limit at)
+        pub sides_read : {b c : Term} {r : ℕ} → Ok (b, r) ≡ expression_over τ (expression_at bytes end limit p) → c ≡ a → Ok (record { kind = kind; left = c; right = b }, r) ≡ atom_over σ (atom_at bytes end limit at)
         unfolding ◌>>=◌
-        atom_read q e = rw e (from_right q)
+        sides_read q e = rw e (from_right q)

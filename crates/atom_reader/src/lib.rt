@@ -3,17 +3,16 @@
 
 ghost use Rattle.std.specs.Prelude.{◌≡◌};
 ghost use Rattle.leaf_reader.specs.Leaves.{Ready};
-ghost use Rattle.atom_reader.specs.AtomReader.{atom_nodes, atom_answer, atom_in, AtomGrown};
+ghost use Rattle.atom_reader.specs.AtomReader.{atom_nodes, atom_answer, atom_read, AtomGrown};
 
 use leaf_reader::Source;
 use model::{Comparison, ReadError};
+use nodes::Atom;
 
-// What reading an atom gives: its comparison, the nodes of its sides, the next position and the table's new top.
+// What reading an atom gives: its comparison of nodes, the next position and the table's new top.
 #[derive(Clone, Copy)]
 pub struct AtomParsed {
-    pub kind: Comparison,
-    pub left: usize,
-    pub right: usize,
+    pub atom: Atom,
     pub next: usize,
     pub top: usize,
 }
@@ -21,7 +20,7 @@ pub struct AtomParsed {
 // The atom at `at`.
 pub fn atom(source: &Source, ws: &mut [u32], at: usize, top: usize) -> Result<AtomParsed, ReadError>
     requires { Ready ws.old source.now.registers top atom_nodes }
-    ensures answer { atom_answer ws.new result ≡ atom_in ws.old source.now at }
+    ensures answer { atom_answer ws.new result ≡ atom_read ws.old source.now at }
     ensures grown { AtomGrown ws.old ws.new source.now.end top result }
 {
     if source.end <= at {
@@ -31,9 +30,7 @@ pub fn atom(source: &Source, ws: &mut [u32], at: usize, top: usize) -> Result<At
     let first = term_reader::expression(source, ws, at + 1, top)?;
     let second = term_reader::expression(source, ws, first.next, first.top)?;
     Ok(AtomParsed {
-        kind,
-        left: first.node,
-        right: second.node,
+        atom: Atom::new(kind, first.node, second.node),
         next: second.next,
         top: second.top,
     })

@@ -7,8 +7,7 @@ use native.Mathlib.Nat.{eq-or-lt_of_le, le_of_suc-le-suc}
 use native.Mathlib.Numerals.{add-one}
 use native.Mathlib.Omega.{arith}
 use lib.ListN.{length, get_or}
-use Rattle.model.specs.Result.{Result, Ok, Err}
-use Rattle.model.specs.Package.{proof_start}
+use Rattle.model.specs.Result.{Ok, Err}
 use Rattle.model.specs.Term.{Term, constant, variable}
 use Rattle.model.specs.Expression.{register_count, expression_at, atom_at, atoms_at, most_nodes}
 use Rattle.model.specs.declared.ReadError.{ReadError}
@@ -18,13 +17,15 @@ use Rattle.model.specs.Goals.{Path as ModelPath, register_variables, block_start
 use Rattle.model.specs.Verdict.{least_workspace}
 use Rattle.workspace.specs.Layout.{most_assumptions, table_base, Same}
 use Rattle.workspace.proofs.Frames.{same_refl, same_trans, same_within}
+use Rattle.nodes.specs.Atoms.{atom_in}
 use Rattle.nodes.specs.Table.{place, term_at, Formed, Space, Put}
 use Rattle.nodes.proofs.Table.{formed_none, term_same}
 use Rattle.leaf_reader.specs.Leaves.{Ready, Grown, variable_term}
 use Rattle.leaf_reader.specs.declared.Parsed.{Parsed}
-use Rattle.term_reader.specs.Reader.{RegisterTerms, expression_over}
+use Rattle.leaf_reader.specs.declared.sources.Source.{Source}
+use Rattle.term_reader.specs.Reader.{RegisterTerms, expression_over, expression_in}
 use Rattle.term_reader.proofs.Substitution.{expression_self}
-use Rattle.atom_reader.specs.AtomReader.{atom_over, AtomGrown}
+use Rattle.atom_reader.specs.AtomReader.{atom_over, atom_read, AtomGrown}
 use Rattle.atom_reader.specs.declared.AtomParsed.{AtomParsed}
 use Rattle.atom_reader.proofs.Substitution.{atom_self}
 use Rattle.assumptions.specs.Area.{listed, Listed, Pushed}
@@ -33,13 +34,12 @@ use Rattle.rule_reader.specs.Opening.{register_nodes}
 use Rattle.rule_reader.proofs.OpeningLaws.{register_below}
 use Rattle.policy.specs.declared.Condition.{Condition}
 use Rattle.annotations.specs.declared.reading.Annotated.{Annotated}
-use Rattle.setting.specs.declared.Setting.{Setting}
 use Rattle.paths.specs.declared.Path.{Path}
-use Rattle.paths.specs.Walking.{path_of, raised_to, NodeIn, PathIn, Kept}
+use Rattle.paths.specs.Walking.{path_of, raised_to, OverRegisters, NodeIn, PathIn, Kept}
 use Rattle.paths.proofs.Reading.{same_value, no_atoms, first_atom}
 use Rattle.paths.proofs.Kept.{map_same, map_at, node_wider, node_held, registers_equal, path_equal, prepared_held, path_held}
 use Rattle.paths.proofs.Walking.{node_kept, path_same, path_kept, Above, above_put, path_ready}
-use Rattle.paths.proofs.Found.{TermFound, AtomFound, term_found, not_mapped}
+use Rattle.paths.proofs.Found.{TermFound, AtomFound, term_found, source_term, source_atom, not_mapped}
 use Rattle.blocks.specs.Starting.{assumed_path, Assumed, Workspace, Variables, start_path, Started, Fresh, assuming_all, AllAssumed, BlockIn, EntryBlock, AnnotationBlock}
 
 -- ---- an assumption more
@@ -140,11 +140,11 @@ module _ {ws bytes : List ℕ} {path : Path} {end : ℕ} {condition : Condition}
     variables = refl;
   }
 
-  pub assume_unread : {us : List ℕ} {e : ReadError} → condition.atoms ≢ 0 → length us ≡ length ws → AtomGrown ws us end path.top (Err e) → Err e ≡ atom_over (variable_term ws path.registers) (atom_at bytes end register_count condition.at)
+  pub assume_unread : {us : List ℕ} {over : Source} {e : ReadError} → condition.atoms ≢ 0 → OverRegisters path bytes end over → length us ≡ length ws → AtomGrown ws us over.end path.top (Err e) → Err e ≡ atom_read ws over condition.at
       → AllAssumed ws us path bytes end condition path
-  assume_unread n l g a = record {
+  assume_unread n o l g a = record {
     inside = path_kept g.kept y.inside l;
-    is = λ atoms next e. absurd (not_mapped _ _ a (first_atom bytes end register_count condition.atoms n e).one);
+    is = λ atoms next e. absurd (not_mapped _ _ (a ∙ source_atom o ws condition.at) (first_atom bytes end register_count condition.atoms n e).one);
     table = same_within table_base (place path.top) (omega arith) (omega arith) g.kept;
     grows = omega arith;
     few = omega arith;
@@ -155,20 +155,17 @@ module _ {ws bytes : List ℕ} {path : Path} {end : ℕ} {condition : Condition}
   }
 
 -- the atom that is read
-abbrev read_atom : List ℕ → AtomParsed → Atom
-read_atom us x = record { kind = x.kind; left = term_at us x.left; right = term_at us x.right }
-
 module _ {ws us bytes : List ℕ} {path m : Path} {end at n : ℕ} {x : AtomParsed} (y : Fresh ws path n) (found : AtomFound ws us bytes path end at x) (e : m ≡ raised_to path x.top) where
   pub raised_in : PathIn us m
   raised_in = subst (PathIn us) (sym e) found.above.inside
 
-  module _ {vs : List ℕ} {more : Path} (z : Assumed us vs m (read_atom us x) more) where
+  module _ {vs : List ℕ} {more : Path} (z : Assumed us vs m (atom_in us x.atom) more) where
     before : path_of us m ≡ path_of ws path
     before = ap (path_of us) e ∙ path_same found.above.kept y.inside
 
     -- the path with the first atom assumed
-    one : path_of vs more ≡ assuming (path_of ws path) (read_atom us x)
-    one = z.is ∙ ap (λ s. assuming s (read_atom us x)) before
+    one : path_of vs more ≡ assuming (path_of ws path) (atom_in us x.atom)
+    one = z.is ∙ ap (λ s. assuming s (atom_in us x.atom)) before
 
     top_is : more.top ≡ x.top
     top_is = ap (λ (p : Path). p.top) z.form ∙ ap (λ (p : Path). p.top) e
@@ -189,17 +186,17 @@ module _ {ws us bytes : List ℕ} {path m : Path} {end at n : ℕ} {x : AtomPars
       few = omega (arith, y.few, one_more);
     }
 
-    pub assume_more : {xs : List ℕ} {p : Path} → n ≢ 0 → Ok (read_atom us x, x.next) ≡ atom_over (variable_term ws path.registers) (atom_at bytes end register_count at) → AllAssumed vs xs more bytes end (record { at = x.next; atoms = n - 1 }) p
+    pub assume_more : {xs : List ℕ} {over : Source} {p : Path} → n ≢ 0 → OverRegisters path bytes end over → Ok (atom_in us x.atom, x.next) ≡ atom_read ws over at → AllAssumed vs xs more bytes end (record { at = x.next; atoms = n - 1 }) p
         → AllAssumed ws xs path bytes end (record { at = at; atoms = n }) p
-    assume_more {xs} {p} some a w = record {
+    assume_more {xs} {p = p} some o a w = record {
       inside = w.inside;
       is = λ atoms last h.
-          let o = first_atom bytes end register_count n some h in
-          let pair : ◌≡◌ {A = Atom × ℕ} (o.first, o.after) (read_atom us x, x.next) = same_value (sym o.one ∙ sym (a ∙ own_atom y.inside y.own bytes end at)) in
-          w.is o.rest last (subst (λ (v : Atom × ℕ). atoms_at bytes end register_count (n - 1) v.1 ≡ Ok (o.rest, last)) pair o.others)
-          ∙ ap (λ s. assuming_all s o.rest) one
-          ∙ all_more (path_of ws path) (read_atom us x) o.rest
-          ∙ ap (assuming_all (path_of ws path)) (ap (λ v. v.0 ∷ o.rest) (sym pair) ∙ o.all);
+          let f = first_atom bytes end register_count n some h in
+          let pair : ◌≡◌ {A = Atom × ℕ} (f.first, f.after) (atom_in us x.atom, x.next) = same_value (sym f.one ∙ sym (a ∙ source_atom o ws at ∙ own_atom y.inside y.own bytes end at)) in
+          w.is f.rest last (subst (λ (v : Atom × ℕ). atoms_at bytes end register_count (n - 1) v.1 ≡ Ok (f.rest, last)) pair f.others)
+          ∙ ap (λ s. assuming_all s f.rest) one
+          ∙ all_more (path_of ws path) (atom_in us x.atom) f.rest
+          ∙ ap (assuming_all (path_of ws path)) (ap (λ v. v.0 ∷ f.rest) (sym pair) ∙ f.all);
       table = same_trans first_table (same_within table_base (place path.top) (omega arith) (omega (arith, top_is, found.above.grows)) w.table);
       grows = omega (arith, w.grows, top_is, found.above.grows);
       few = omega (arith, w.few, top_is, found.above.few);
@@ -210,10 +207,6 @@ module _ {ws us bytes : List ℕ} {path m : Path} {end at n : ℕ} {x : AtomPars
     }
 
 -- ---- blocks
--- what stands where an annotation's credit does
-abbrev credit_in : Setting → Annotated → (end : ℕ) → Result (Term × ℕ) ReadError
-credit_in setting annotated end = expression_at setting.routine.bytes.now end register_count (annotated.at + 3)
-
 module _ {us : List ℕ} {index : ℕ} {first : Path} (s : Started us index first) where
   start_path_lem : PathIn us (start_path index)
   start_path_lem = subst (PathIn us) s.form s.inside
@@ -272,18 +265,22 @@ module _ {us : List ℕ} {index : ℕ} {first : Path} (s : Started us index firs
     unfolding variable_bound
     entry_node = record { below = omega arith; bound = rw q.is (omega arith) }
 
-    pub entry_block_lem : {xs : List ℕ} (setting : Setting) {m p : Path} → index ≡ 0 → limit ≡ setting.policy.limit → m ≡ raised_to first (register_count + 1)
-        → AllAssumed vs xs m setting.conditions.now (length setting.conditions.now) setting.policy.precondition p → EntryBlock xs setting (record { path = p; credit = register_count })
-    entry_block_lem {xs} setting {p = p} z k e w = record {
-      block = subst (λ i. BlockIn xs i (record { path = p; credit = register_count })) z (block_in entry_above e entry_node w setting.policy_fits.few_precondition (omega arith));
-      credit = block_credit entry_above e entry_node w ∙ q.is ∙ ap constant k;
+    pub entry_block_lem : {xs conditions : List ℕ} {precondition : Condition} {m p : Path} → precondition.atoms ≤ most_atoms → index ≡ 0 → m ≡ raised_to first (register_count + 1)
+        → AllAssumed vs xs m conditions (length conditions) precondition p → EntryBlock xs conditions precondition limit (record { path = p; credit = register_count })
+    entry_block_lem {xs} {p = p} f z e w = record {
+      block = subst (λ i. BlockIn xs i (record { path = p; credit = register_count })) z (block_in entry_above e entry_node w f (omega arith));
+      credit = block_credit entry_above e entry_node w ∙ q.is;
       is = λ atoms next h. subst (λ i. path_of xs p ≡ block_start i atoms) z (block_is entry_above e entry_node w atoms next h);
     }
 
+  -- a source over its registers
+  over_start : {bytes : List ℕ} {end : ℕ} {over : Source} → OverRegisters first bytes end over → OverRegisters (start_path index) bytes end over
+  over_start {bytes} {end} {over} o = subst (λ (x : Path). OverRegisters x bytes end over) s.form o
+
   -- the block at an annotation
-  module _ {vs : List ℕ} {end : ℕ} (setting : Setting) (annotated : Annotated) (i : index ≡ annotated.index) (j : end ≡ proof_start setting.routine.header) (l : length vs ≡ length us) where
-    pub annotation_unread : {e : ReadError} → Grown us vs end register_count most_nodes (Err e) → Err e ≡ expression_over (variable_term us first.registers) (credit_in setting annotated end) → AnnotationBlock vs setting annotated (record { path = first; credit = 0 })
-    annotation_unread g a = subst (λ (x : Path). AnnotationBlock vs setting annotated (record { path = x; credit = 0 })) (sym s.form) (record {
+  module _ {vs : List ℕ} (bytes : List ℕ) {end : ℕ} {over : Source} (annotated : Annotated) (i : index ≡ annotated.index) (o : OverRegisters first bytes end over) (l : length vs ≡ length us) where
+    pub annotation_unread : {e : ReadError} → Grown us vs over.end register_count most_nodes (Err e) → Err e ≡ expression_in us over (annotated.at + 3) → AnnotationBlock vs bytes end annotated (record { path = first; credit = 0 })
+    annotation_unread g a = subst (λ (x : Path). AnnotationBlock vs bytes end annotated (record { path = x; credit = 0 })) (sym s.form) (record {
       block = record {
         inside = path_kept g.kept start_path_lem l;
         credit = node_kept g.kept (start_path_lem.held 0 (omega arith));
@@ -293,24 +290,21 @@ module _ {us : List ℕ} {index : ℕ} {first : Path} (s : Started us index firs
         few = omega arith;
         more = omega arith;
       };
-      is = λ x q next e f. absurd (not_mapped _ _ a (ap (credit_in setting annotated) j ∙ e));
+      is = λ x q next e f. absurd (not_mapped _ _ (a ∙ source_term (over_start o) us (annotated.at + 3)) e);
     })
 
-    module _ {x : Parsed} (g : Grown us vs end register_count most_nodes (Ok x)) (a : Ok (term_at vs x.node, x.next) ≡ expression_over (variable_term us first.registers) (credit_in setting annotated end)) where
-      over_start : Ok (term_at vs x.node, x.next) ≡ expression_over (variable_term us (start_path index).registers) (credit_in setting annotated end)
-      over_start = a ∙ ap (λ (p : Path). expression_over (variable_term us p.registers) (credit_in setting annotated end)) s.form
+    module _ {x : Parsed} (g : Grown us vs over.end register_count most_nodes (Ok x)) (a : Ok (term_at vs x.node, x.next) ≡ expression_in us over (annotated.at + 3)) where
+      pub annotation_found : TermFound us vs bytes (start_path index) end (annotated.at + 3) x
+      annotation_found = term_found start_path_lem l (over_start o) g a
 
-      pub annotation_found : TermFound us vs setting.routine.bytes.now (start_path index) end (annotated.at + 3) x
-      annotation_found = term_found start_path_lem l g over_start
-
-      pub annotation_block_lem : {xs : List ℕ} {number : ℕ} {m p : Path} → number ≡ get_or setting.routine.bytes.now (annotated.at + 2) 0 → get_or setting.routine.bytes.now (annotated.at + 2) 0 ≤ most_atoms → m ≡ raised_to first x.top
-          → AllAssumed vs xs m setting.routine.bytes.now end (record { at = x.next; atoms = number }) p → AnnotationBlock xs setting annotated (record { path = p; credit = x.node })
+      pub annotation_block_lem : {xs : List ℕ} {number : ℕ} {m p : Path} → number ≡ get_or bytes (annotated.at + 2) 0 → get_or bytes (annotated.at + 2) 0 ≤ most_atoms → m ≡ raised_to first x.top
+          → AllAssumed vs xs m bytes end (record { at = x.next; atoms = number }) p → AnnotationBlock xs bytes end annotated (record { path = p; credit = x.node })
       annotation_block_lem {xs} {number} {m} {p} k h e w = record {
         block = subst (λ n. BlockIn xs n (record { path = p; credit = x.node })) i (block_in annotation_found.above e annotation_found.node w (omega arith) (omega arith));
         is = λ y q last read others.
-            let own = own_term start_path_lem (ap (λ (z : ModelPath). z.registers) start_is) setting.routine.bytes.now end (annotated.at + 3) in
-            let pair : ◌≡◌ {A = Term × ℕ} (term_at vs x.node, x.next) (y.credit, q) = same_value (over_start ∙ own ∙ ap (credit_in setting annotated) j ∙ read) in (
+            let own = own_term start_path_lem (ap (λ (z : ModelPath). z.registers) start_is) bytes end (annotated.at + 3) in
+            let pair : ◌≡◌ {A = Term × ℕ} (term_at vs x.node, x.next) (y.credit, q) = same_value (a ∙ source_term (over_start o) us (annotated.at + 3) ∙ own ∙ read) in (
               block_credit annotation_found.above e annotation_found.node w ∙ ap (λ z. z.0) pair,
-              subst (λ n. path_of xs p ≡ block_start n y.atoms) i (block_is annotation_found.above e annotation_found.node w y.atoms last (rw (j, k, ap (λ z. z.1) pair) others)),
+              subst (λ n. path_of xs p ≡ block_start n y.atoms) i (block_is annotation_found.above e annotation_found.node w y.atoms last (rw (k, ap (λ z. z.1) pair) others)),
             );
       }

@@ -13,10 +13,8 @@ use Rattle.atom_reader.specs.AtomReader.{atom_nodes}
 use Rattle.assumptions.specs.Area.{slot}
 use Rattle.forms.specs.Area.{Cleared}
 use Rattle.rule_reader.specs.Opening.{register_nodes}
-use Rattle.model.specs.Package.{proof_start}
 use Rattle.policy.specs.declared.Condition.{Condition}
 use Rattle.annotations.specs.declared.reading.Annotated.{Annotated}
-use Rattle.setting.specs.declared.Setting.{Setting}
 use Rattle.paths.specs.declared.Path.{Path}
 use Rattle.blocks.specs.declared.Block.{Block}
 use Rattle.paths.specs.Walking.{path_of, PathIn, NodeIn}
@@ -94,15 +92,15 @@ pub record BlockIn (us : List ℕ) (index : ℕ) (r : Block) : Type 0 where
   pub more : r.path.assumptions ≤ most_atoms
 
 -- the block at instruction 0
-pub record EntryBlock (us : List ℕ) (setting : Setting) (r : Block) : Type 0 where
+pub record EntryBlock (us conditions : List ℕ) (precondition : Condition) (limit : ℕ) (r : Block) : Type 0 where
   pub block : BlockIn us 0 r
-  pub credit : term_at us r.credit ≡ constant setting.policy.limit
-  pub is : (atoms : List Atom) (next : ℕ) → atoms_at setting.conditions.now (length setting.conditions.now) register_count setting.policy.precondition.atoms setting.policy.precondition.at ≡ Ok (atoms, next)
+  pub credit : term_at us r.credit ≡ constant limit
+  pub is : (atoms : List Atom) (next : ℕ) → atoms_at conditions (length conditions) register_count precondition.atoms precondition.at ≡ Ok (atoms, next)
       → path_of us r.path ≡ block_start 0 atoms
 
 -- the block at the annotation a that stands at a place
-pub record AnnotationBlock (us : List ℕ) (setting : Setting) (annotated : Annotated) (r : Block) : Type 0 where
+pub record AnnotationBlock (us bytes : List ℕ) (end : ℕ) (annotated : Annotated) (r : Block) : Type 0 where
   pub block : BlockIn us annotated.index r
-  pub is : (a : Annotation) (q next : ℕ) → expression_at setting.routine.bytes.now (proof_start setting.routine.header) register_count (annotated.at + 3) ≡ Ok (a.credit, q)
-      → atoms_at setting.routine.bytes.now (proof_start setting.routine.header) register_count (get_or setting.routine.bytes.now (annotated.at + 2) 0) q ≡ Ok (a.atoms, next)
+  pub is : (a : Annotation) (q next : ℕ) → expression_at bytes end register_count (annotated.at + 3) ≡ Ok (a.credit, q)
+      → atoms_at bytes end register_count (get_or bytes (annotated.at + 2) 0) q ≡ Ok (a.atoms, next)
       → (term_at us r.credit ≡ a.credit) × (path_of us r.path ≡ block_start annotated.index a.atoms)

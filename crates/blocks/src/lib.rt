@@ -6,19 +6,16 @@ ghost use Rattle.model.specs.Verdict.{least_workspace};
 ghost use Rattle.model.specs.Expression.{register_count};
 ghost use Rattle.model.specs.Atom.{most_atoms};
 ghost use Rattle.workspace.specs.Layout.{most_assumptions, most_table_nodes};
-ghost use Rattle.model.specs.Package.{proof_start};
-ghost use Rattle.assumptions.specs.Area.{atom_in};
+ghost use Rattle.nodes.specs.Atoms.{atom_in, AtomBelow};
 ghost use Rattle.paths.specs.Walking.{PathIn};
 ghost use Rattle.blocks.specs.Starting.{Assumed, Workspace, Variables, Started, Fresh, AllAssumed, EntryBlock, AnnotationBlock};
 
 use annotations::reading::Annotated;
-use assumptions::Assumption;
-use leaf_reader::Source;
 use limits::REGISTERS;
+use nodes::Atom;
 use paths::Path;
 use policy::Condition;
 use rule_reader::REGISTER_NODES;
-use setting::Setting;
 
 // Where a block starts, and the node of its credit.
 #[derive(Clone, Copy)]
@@ -28,10 +25,10 @@ pub struct Block {
 }
 
 // The path with a comparison of two nodes assumed besides.
-pub fn assuming(ws: &mut [u32], path: Path, assumption: Assumption) -> Path
+pub fn assuming(ws: &mut [u32], path: Path, assumption: Atom) -> Path
     requires path_in { PathIn ws.old path }
     requires room { (path.assumptions < most_assumptions) × (path.top ≤ most_table_nodes) × (least_workspace ≤ length ws.old) }
-    requires sides_below { (assumption.left < path.top) × (assumption.right < path.top) }
+    requires sides_below { AtomBelow path.top assumption }
     ensures { Assumed ws.old ws.new path (atom_in ws.old assumption) result }
 {
     assumptions::push(ws, path.assumptions, path.top, assumption);
@@ -77,22 +74,11 @@ fn assume(bytes: &[u8], end: usize, condition: Condition, ws: &mut [u32], path: 
     if condition.atoms == 0 {
         return path;
     }
-    let registers = path.registers;
-    let source = Source {
-        bytes,
-        end,
-        limit: REGISTERS,
-        registers,
-    };
+    let source = path.source(bytes, end);
     let Ok(read) = atom_reader::atom(&source, ws, condition.at, path.top) else {
         return path;
     };
-    let assumption = Assumption {
-        kind: read.kind,
-        left: read.left,
-        right: read.right,
-    };
-    let more = assuming(ws, path.raised(read.top), assumption);
+    let more = assuming(ws, path.raised(read.top), read.atom);
     let rest = Condition {
         at: read.next,
         atoms: condition.atoms - 1,
@@ -100,15 +86,14 @@ fn assume(bytes: &[u8], end: usize, condition: Condition, ws: &mut [u32], path: 
     assume(bytes, end, rest, ws, more)
 }
 
-// The block at instruction 0: the precondition is assumed, and the credit is the step limit.
-pub fn entry_block(setting: &Setting, ws: &mut [u32]) -> Block
-    requires { Workspace ws.old }
-    ensures { EntryBlock ws.new setting.now result }
+// The block at instruction 0: a condition is assumed, and the credit is a constant.
+pub fn entry_block(conditions: &[u8], precondition: Condition, limit: u32, ws: &mut [u32]) -> Block
+    requires workspace { Workspace ws.old }
+    requires few_atoms { precondition.atoms ≤ most_atoms }
+    ensures { EntryBlock ws.new conditions.now precondition limit result }
 {
     let first = start(ws, 0);
-    terms::put_constant(ws, REGISTERS, setting.policy.limit);
-    let conditions = setting.conditions;
-    let precondition = setting.policy.precondition;
+    terms::put_constant(ws, REGISTERS, limit);
     let path = assume(
         conditions,
         conditions.len(),
@@ -122,24 +107,16 @@ pub fn entry_block(setting: &Setting, ws: &mut [u32]) -> Block
     }
 }
 
-// The block at an annotation: its atoms are assumed, and the credit is its own. Check 11 has read the annotation before, so that it can be
-// read here.
-pub fn annotation_block(setting: &Setting, annotated: Annotated, ws: &mut [u32]) -> Block
+// The block at an annotation, which stands in `bytes`: its atoms are assumed, and the credit is its own. Check 11 has read the annotation
+// before, so that it can be read here.
+pub fn annotation_block(bytes: &[u8], end: usize, annotated: Annotated, ws: &mut [u32]) -> Block
     requires workspace { Workspace ws.old }
-    requires at_in_bounds { annotated.at + 2 < proof_start setting.now.routine.header }
-    requires few_atoms { get_or setting.now.routine.bytes.now (annotated.at + 2) 0 ≤ most_atoms }
-    ensures { AnnotationBlock ws.new setting.now annotated result }
+    requires end_in_bounds { (end ≤ length bytes.now) × (annotated.at + 2 < end) }
+    requires few_atoms { get_or bytes.now (annotated.at + 2) 0 ≤ most_atoms }
+    ensures { AnnotationBlock ws.new bytes.now end annotated result }
 {
     let first = start(ws, annotated.index);
-    let bytes = setting.routine.bytes;
-    let end = setting.routine.proof_start();
-    let registers = first.registers;
-    let source = Source {
-        bytes,
-        end,
-        limit: REGISTERS,
-        registers,
-    };
+    let source = first.source(bytes, end);
     let Ok(credit) = term_reader::expression(&source, ws, annotated.at + 3, REGISTERS) else {
         return Block {
             path: first,

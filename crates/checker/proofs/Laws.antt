@@ -65,22 +65,22 @@ module _ (bytes : List ℕ) (policy : Policy) (h : Header) where
 -- the setting's routine, once its targets have passed
 module _ (setting : Setting) (r : Result ℕ Refused) where
   abbrev bytes : List ℕ
-  bytes = setting.routine.bytes.now
+  bytes = setting.tables.routine.bytes.now
 
   abbrev h : Header
-  h = setting.routine.header
+  h = setting.tables.routine.header
 
   pub evaluated : ((policy : Policy) (routine : Routine) → Stands setting policy routine → verdict_of r ≡ judge bytes policy (trace_of policy routine) routine.proof 0)
-      → with_terms bytes h (Ok setting.annotations.now) ≡ read_annotations bytes h → Tabled bytes h setting.annotations.now → {t : Result (Unit {0}) Refusal} → TargetsMet bytes h setting.annotations.now t → t ≡ Ok tt
+      → with_terms bytes h (Ok setting.tables.annotations.now) ≡ read_annotations bytes h → Tabled bytes h setting.tables.annotations.now → {t : Result (Unit {0}) Refusal} → TargetsMet bytes h setting.tables.annotations.now t → t ≡ Ok tt
       → AnnotationsChecked bytes (policy_of setting.conditions.now setting.policy) h (verdict_of r)
   unfolding ◌>>=◌ routine_verdict answered
   evaluated E R tabled {t} T f =
       let policy = policy_of setting.conditions.now setting.policy in
       record {
         is = λ code c.
-            let routine = routine_of bytes policy h setting.annotations.now R tabled t T code in
+            let routine = routine_of bytes policy h setting.tables.annotations.now R tabled t T code in
             E policy routine (record { policy_is = refl; code_read = c; annotations_are = refl; proof_is = refl })
-            ∙ rw (past_annotations bytes policy h setting.annotations.now R tabled t T code c, f);
+            ∙ rw (past_annotations bytes policy h setting.tables.annotations.now R tabled t T code c, f);
       }
 
 -- ---- checks 7, 8 and 9

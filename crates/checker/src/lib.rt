@@ -18,7 +18,7 @@ use model::{Refusal, Verdict};
 use policy::Policy;
 use refusals::Refused;
 use routine::instructions;
-use setting::Setting;
+use setting::{Setting, Tables};
 use workspace::AREA_WORDS;
 
 // Makes the words zero in which linear forms are compared.
@@ -30,11 +30,11 @@ fn clear_area(workspace: &mut [u32])
 }
 
 // Checks 10, 11 and 12, and the evaluation of a routine that passes them; its code has been checked.
-fn check_annotations(
+fn check_annotations<'x>(
     workspace: &mut [u32],
-    conditions: &[u8],
+    conditions: &'x [u8],
     policy: Policy,
-    routine: &Package,
+    routine: &Package<'x>,
 ) -> Result<usize, Refused>
     requires room { least_workspace ≤ length workspace.old }
     requires checked { Checked conditions.now policy }
@@ -44,11 +44,15 @@ fn check_annotations(
     let annotations = read.as_slice();
     targets::check_targets(routine, annotations)?;
     clear_area(workspace);
+    let tables = Tables {
+        routine: *routine,
+        annotations,
+        regions: policy.regions.as_slice(),
+    };
     let setting = Setting {
         conditions,
         policy,
-        routine: *routine,
-        annotations,
+        tables,
     };
     evaluation::evaluate(&setting, workspace)
 }

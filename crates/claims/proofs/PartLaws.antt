@@ -23,10 +23,9 @@ use Rattle.nodes.specs.declared.Operation.TheVariants.{Sum, Difference, Mask}
 use Rattle.nodes.specs.contracts.Operation.{the_type as operation-type}
 use Rattle.nodes.proofs.Table.{node_built}
 use Rattle.model_laws.proofs.Steps.{check_fails, check_passes}
-use Rattle.assumptions.specs.Area.{entry_of, atom_in as assumption_in}
-use Rattle.assumptions.specs.declared.Assumption.{Assumption}
-use Rattle.claims.specs.Plan.{atom_in}
-use Rattle.claims.specs.declared.Premise.{Premise}
+use Rattle.nodes.specs.Atoms.{atom_in}
+use Rattle.nodes.specs.declared.Atom.{Atom as NodeAtom}
+use Rattle.assumptions.specs.Area.{entry_of}
 
 -- ---- an answer that is no value
 pub is_misfit : {A : Type 0} {r : Result A Misfit} → IsErr r → r ≡ Err misfit
@@ -48,9 +47,9 @@ pub same_kind : (a b : Comparison) {x : Bool} → x ≡ sameb comparison-type a 
 same_kind a b e = rw (e, kind_tag a, kind_tag b)
 
 -- ---- an assumption
-module _ (ws : List ℕ) (k : ℕ) {a : Assumption} (e : a ≡ entry_of ws k) (claimed : Premise) where
+module _ (ws : List ℕ) (k : ℕ) {a : NodeAtom} (e : a ≡ entry_of ws k) (claimed : NodeAtom) where
   pub assumption_is : {x y z : Bool} → x ≡ sameb comparison-type claimed.kind a.kind → y ≡ eq_term (term_at ws claimed.left) (term_at ws a.left) → z ≡ eq_term (term_at ws claimed.right) (term_at ws a.right)
-      → (x && y && z) ≡ eq_atom (atom_in ws claimed) (assumption_in ws (entry_of ws k))
+      → (x && y && z) ≡ eq_atom (atom_in ws claimed) (atom_in ws (entry_of ws k))
   unfolding eq_atom
   assumption_is h i j = rw (← e, same_kind claimed.kind a.kind h, i, j)
 

@@ -5,7 +5,7 @@ use mathlib.Core.List.{List, ◌∷◌, []}
 use Prim.Native.Nat.{ℕ, suc, ◌+◌, ◌<◌}
 use native.Mathlib.Omega.{arith}
 use lib.ListN.{length}
-use Rattle.std.specs.Prelude.{IsErr, IfOk, map}
+use Rattle.std.specs.Prelude.{IsErr, map}
 use Rattle.std.specs.List.{All}
 use Rattle.std.proofs.lemmas.List.Elements.{All-cons, All-nil}
 use Rattle.model.specs.Result.{Result, Fit, misfit, Err, Ok, ◌>>=◌, check}
@@ -13,21 +13,23 @@ use Rattle.model.specs.Term.{Term}
 use Rattle.model.specs.Atom.{Atom}
 use Rattle.model.specs.Policy.{Policy}
 use Rattle.model.specs.Goals.{Goal}
-use Rattle.model.specs.declared.Comparison.{Comparison}
 use Rattle.model.specs.declared.Misfit.{Misfit}
 use Rattle.workspace.specs.Layout.{table_base, hint_base, Same}
-use Rattle.nodes.specs.Table.{place, term_at, Formed, Space, Put}
+use Rattle.nodes.specs.Atoms.{atom_in, AtomBelow}
+use Rattle.nodes.specs.declared.Atom.{Atom as NodeAtom}
+use Rattle.nodes.specs.Table.{place, term_at, Shaped, Formed, Put}
 use Rattle.workspace.proofs.Frames.{same_refl, same_trans, same_within}
 use Rattle.nodes.proofs.Table.{term_same, formed_same, formed_less}
-use Rattle.claims.proofs.PartLaws.{is_misfit}
-use Rattle.claims.specs.Plan.{premise, atom_in, lists, none_where, Plans, Grows, Planned, PremiseBelow}
-use Rattle.claims.specs.declared.Premise.{Premise}
+use Rattle.claims.specs.Plan.{filled, lists, none_where, Plans, Grows, Planned}
 use Rattle.claims.specs.declared.Plan.{Plan}
-use Rattle.model_laws.proofs.Steps.{check_fails, check_passes}
+use Rattle.model_laws.proofs.Steps.{check_fails, check_passes, stops}
 
 -- a table's shorter part, up to a node of it
 pub formed_at : {ws : List ℕ} {top i : ℕ} → Formed ws top → i < top → Formed ws (suc i)
 formed_at f h = formed_less _ h f
+
+pub shaped_at : {ws : List ℕ} {top i : ℕ} → Formed ws top → i < top → Shaped ws (suc i)
+shaped_at f h = (formed_at f h).shaped
 
 pub kept_term : {ws us : List ℕ} {top i : ℕ} → Same 0 (place top) ws us → i < top → term_at us i ≡ term_at ws i
 kept_term {top = top} {i = i} s h = term_same top (same_within table_base (place top) (omega arith) (omega arith) s) i h
@@ -45,53 +47,55 @@ stays_hinted {top = top} f s e = record {
   few = omega arith;
 }
 
-module _ {Where : Policy → Goal → Type 0} {asked : Policy → Goal → Fit (List Atom)} {ws us : List ℕ} {top : ℕ} where
-  -- the rule does not fit
-  pub misfits : {r : Result Plan Misfit} → Grows ws us top top → IsErr r → ((policy : Policy) (g : Goal) → Where policy g → Err misfit ≡ asked policy g) → Planned Where asked ws us top r
-  misfits y e s = rw (is_misfit e) (record { says = s; grows = y; below = tt })
+-- each of these comparisons is of nodes below high
+abbrev pub EachBelow : (high : ℕ) → List NodeAtom → Type 0
+EachBelow high [] = Unit {0}
+EachBelow high (a ∷ rest) = AtomBelow high a × EachBelow high rest
 
+all_below : (high : ℕ) (atoms : List NodeAtom) → EachBelow high atoms → All (AtomBelow high) atoms
+all_below high [] h = All-nil (AtomBelow high)
+all_below high (a ∷ rest) h = All-cons (AtomBelow high) a rest h.0 (all_below high rest h.1)
+
+-- the rule does not fit
+pub unfit : {Where : Policy → Goal → Type 0} {asked : Policy → Goal → Fit (List Atom)} {ws : List ℕ} {top : ℕ} → Formed ws top → ((policy : Policy) (g : Goal) → Where policy g → Err misfit ≡ asked policy g) → Planned Where asked ws ws top (Err misfit)
+unfit f s = record { says = s; grows = stays f; below = tt }
+
+-- the same of an answer that is some error
+module _ {Where : Policy → Goal → Type 0} {ws : List ℕ} {top : ℕ} (r : Result (Unit {0}) Misfit) (p : Plan) (f : Formed ws top) (e : IsErr r) where
+  pub misfits : {asked : Policy → Goal → Fit (List Atom)} → ((policy : Policy) (g : Goal) → Where policy g → Err misfit ≡ asked policy g) → Planned Where asked ws ws top (filled r p)
+  misfits {asked} s = go r e
+    where
+      go : (r : Result (Unit {0}) Misfit) → IsErr r → Planned Where asked ws ws top (filled r p)
+      go (Ok u) e = absurd cc
+      go (Err x) e = unfit f s
+
+  -- by its first step
+  pub misfits_at_once : {A : Type 0} {step : Fit A} (next : Policy → Goal → A → Fit (List Atom)) → Err misfit ≡ step → Planned Where (λ policy g. step >>= next policy g) ws ws top (filled r p)
+  misfits_at_once next s = misfits (λ policy g _. stops _ s)
+
+module _ {Where : Policy → Goal → Type 0} {asked : Policy → Goal → Fit (List Atom)} {ws us : List ℕ} {top : ℕ} where
   -- the rule has these premises
-  pub fits : {high : ℕ} {p : Plan} {premises : List Premise} → Grows ws us top high → Plans premises high p → All (PremiseBelow high) premises
+  pub fits : {high : ℕ} {p : Plan} {premises : List NodeAtom} → Grows ws us top high → Plans premises high p → EachBelow high premises
       → ((policy : Policy) (g : Goal) → Where policy g → Ok (map (atom_in us) premises) ≡ asked policy g) → Planned Where asked ws us top (Ok p)
-  fits y e b s = record {
+  fits {high} {premises = premises} y e b s = record {
     says = λ policy g w. rw (e.premises_are) (s policy g w);
     grows = rw (e.top_is) y;
-    below = rw (e.premises_are, e.top_is) b;
+    below = rw (e.premises_are, e.top_is) (all_below high premises b);
   }
 
-  module _ {high : ℕ} (y : Grows ws us top high) {p : Plan} {a : Premise} {k : Comparison} {l r : ℕ} (d : a ≡ premise k l r) (h : (l < high) × (r < high)) where
-    pub fits_one : Plans (a ∷ []) high p → ((policy : Policy) (g : Goal) → Where policy g → Ok (atom_in us (premise k l r) ∷ []) ≡ asked policy g) → Planned Where asked ws us top (Ok p)
-    fits_one e s = fits y e (All-cons (PremiseBelow high) a [] (rw d h) (All-nil (PremiseBelow high))) (rw d s)
-
-    module _ {b : Premise} {k2 : Comparison} {l2 r2 : ℕ} (d2 : b ≡ premise k2 l2 r2) (h2 : (l2 < high) × (r2 < high)) where
-      pub fits_two : Plans (a ∷ b ∷ []) high p → ((policy : Policy) (g : Goal) → Where policy g → Ok (atom_in us (premise k l r) ∷ atom_in us (premise k2 l2 r2) ∷ []) ≡ asked policy g) → Planned Where asked ws us top (Ok p)
-      fits_two e s = fits y e (All-cons (PremiseBelow high) a (b ∷ []) (rw d h) (All-cons (PremiseBelow high) b [] (rw d2 h2) (All-nil (PremiseBelow high)))) (rw (d, d2) s)
-
-      pub fits_three : {c : Premise} {k3 : Comparison} {l3 r3 : ℕ} → c ≡ premise k3 l3 r3 → (l3 < high) × (r3 < high) → Plans (a ∷ b ∷ c ∷ []) high p
-          → ((policy : Policy) (g : Goal) → Where policy g → Ok (atom_in us (premise k l r) ∷ atom_in us (premise k2 l2 r2) ∷ atom_in us (premise k3 l3 r3) ∷ []) ≡ asked policy g) → Planned Where asked ws us top (Ok p)
-      fits_three {c = c} d3 h3 e s = fits y e (All-cons (PremiseBelow high) a (b ∷ c ∷ []) (rw d h) (All-cons (PremiseBelow high) b (c ∷ []) (rw d2 h2) (All-cons (PremiseBelow high) c [] (rw d3 h3) (All-nil (PremiseBelow high))))) (rw (d, d2, d3) s)
-
   -- the rule has no premise, but a test
-  pub fits_if : (test : Bool) {r : Result Plan Misfit} → Grows ws us top top → lists r ≡ none_where test → IfOk r (λ p. p.top ≡ top)
-      → ((policy : Policy) (g : Goal) → Where policy g → (check test misfit >>= λ _. Ok []) ≡ asked policy g) → Planned Where asked ws us top r
-  fits_if test {r} y e t s = go r test e t s
+  pub fits_if : (test : Bool) (r : Result (Unit {0}) Misfit) (p : Plan) → Grows ws us top top → lists (filled r p) ≡ none_where test → p.top ≡ top
+      → ((policy : Policy) (g : Goal) → Where policy g → (check test misfit >>= λ _. Ok []) ≡ asked policy g) → Planned Where asked ws us top (filled r p)
+  fits_if test r p y e t s = go r test e s
     where
-      go : (r : Result Plan Misfit) (test : Bool) → lists r ≡ none_where test → IfOk r (λ p. p.top ≡ top) → ((policy : Policy) (g : Goal) → Where policy g → (check test misfit >>= λ _. Ok []) ≡ asked policy g)
-          → Planned Where asked ws us top r
-      go (Ok p) true e t s = fits {premises = []} y (record { premises_are = cc; top_is = t }) (All-nil _) (λ policy g w. check_passes _ _ refl refl ∙ s policy g w)
-      go (Ok p) false e t s = absurd cc
-      go (Err x) true e t s = absurd cc
-      go (Err x) false e t s = misfits y refl (λ policy g w. check_fails _ _ refl ∙ s policy g w)
+      go : (r : Result (Unit {0}) Misfit) (test : Bool) → lists (filled r p) ≡ none_where test → ((policy : Policy) (g : Goal) → Where policy g → (check test misfit >>= λ _. Ok []) ≡ asked policy g)
+          → Planned Where asked ws us top (filled r p)
+      go (Ok u) true e s = fits {premises = []} y (record { premises_are = cc; top_is = t }) tt (λ policy g w. check_passes _ _ refl refl ∙ s policy g w)
+      go (Ok u) false e s = absurd cc
+      go (Err x) true e s = absurd cc
+      go (Err x) false e s = record { says = λ policy g w. check_fails _ _ refl ∙ s policy g w; grows = y; below = tt }
 
 -- ---- two new nodes
--- what the second asks once the first is put
-module _ {ws us : List ℕ} {top : ℕ} {t : Term} (s : Space ws top 4) (x : Put ws us top t) (e : length us ≡ length ws) where
-  pub put_asks : Formed us (top + 1) × Space us (top + 1) 1
-  put_asks = (formed_less (top + 1) (omega arith) x.formed, record { words = omega (arith, s.words); fits = omega (arith, s.fits) })
-
-  pub put_asks_parts : (l r : ℕ) → l < top + 1 → r < top + 1 → Formed us (top + 1) × (Space us (top + 1) 1 × ((l < top + 1) × (r < top + 1)))
-  put_asks_parts l r h k = (put_asks.0, (put_asks.1, (h, k)))
-
 module _ {ws us vs : List ℕ} {top : ℕ} {m n : Term} (x : Put ws us top m) (y : Put us vs (top + 1) n) where
   pub two_put : Grows ws vs top (top + 2)
   two_put = record {

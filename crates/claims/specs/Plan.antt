@@ -1,61 +1,49 @@
 -- What a rule asks of a claim, in terms of the term table. Assumes nothing.
-use Rattle.std.specs.Prelude.{◌≡◌, Bool, true, false, List, [], ℕ, ◌+◌, ◌≤◌, ◌<◌, map, take, IfOk}
+use Rattle.std.specs.Prelude.{◌≡◌, Bool, true, false, List, [], ℕ, ◌+◌, ◌≤◌, map, take, IfOk}
 use Rattle.std.specs.List.{All}
-use Rattle.model.specs.Result.{Result, Fit, misfit, Err, Ok}
+use Rattle.model.specs.Result.{Result, Fit, misfit, Err, Ok, map_ok}
 use Rattle.model.specs.Atom.{Atom}
 use Rattle.model.specs.Policy.{Policy}
 use Rattle.model.specs.Goals.{Goal, Claim as Claimed}
 use Rattle.model.specs.Rule.{Rule, premises}
-use Rattle.model.specs.declared.Comparison.{Comparison}
 use Rattle.model.specs.declared.Misfit.{Misfit}
 use Rattle.workspace.specs.Layout.{Same}
-use Rattle.nodes.specs.Table.{place, term_at, Formed}
-use Rattle.claims.specs.declared.Claim.{Claim}
-use Rattle.claims.specs.declared.Claim.TheVariants.{Atom as AtomClaim}
-use Rattle.claims.specs.declared.Premise.{Premise}
+use Rattle.nodes.specs.Atoms.{atom_in, AtomBelow}
+use Rattle.nodes.specs.Table.{place, Formed}
+use Rattle.nodes.specs.declared.Atom.{Atom as NodeAtom}
 use Rattle.claims.specs.declared.Plan.{Plan}
 
 -- ---- plans
-abbrev pub premise : Comparison → (left right : ℕ) → Premise
-premise kind left right = record { kind = kind; left = left; right = right }
-
 -- a plan's premises, in order
-abbrev pub listed : Plan → List Premise
+abbrev pub listed : Plan → List NodeAtom
 listed p = take p.count p.premises
 
 -- a plan of these premises, over a table with this top
-pub record Plans (premises : List Premise) (top : ℕ) (p : Plan) : Type 0 where
+pub record Plans (premises : List NodeAtom) (top : ℕ) (p : Plan) : Type 0 where
   pub premises_are : listed p ≡ premises
   pub top_is : p.top ≡ top
 
--- the same of an answer
-abbrev pub lists : Result Plan Misfit → Fit (List Premise)
-lists (Ok p) = Ok (listed p)
-lists (Err e) = Err e
+-- what a rule answers that has filled a plan: the plan, where the rule fits
+abbrev pub filled : Result (Unit {0}) Misfit → Plan → Result Plan Misfit
+filled r p = map_ok (λ _. p) r
+
+-- the premises of an answer
+abbrev pub lists : Result Plan Misfit → Fit (List NodeAtom)
+lists r = map_ok listed r
 
 -- the same of a rule without premises, by its test
-abbrev pub none_where : Bool → Fit (List Premise)
+abbrev pub none_where : Bool → Fit (List NodeAtom)
 none_where true = Ok []
 none_where false = Err misfit
 
 -- ---- what a plan says in the words us
-abbrev pub atom_in : List ℕ → Premise → Atom
-atom_in us p = record { kind = p.kind; left = term_at us p.left; right = term_at us p.right }
-
-abbrev pub premise_claim : Premise → Claim
-premise_claim p = AtomClaim p.kind p.left p.right
-
 abbrev pub premises_of : List ℕ → Plan → List Atom
 premises_of us p = map (atom_in us) (listed p)
 
 abbrev pub plan_of : List ℕ → Result Plan Misfit → Fit (List Atom)
-plan_of us (Ok p) = Ok (premises_of us p)
-plan_of us (Err e) = Err e
+plan_of us r = map_ok (premises_of us) r
 
 -- ---- the contract
-abbrev pub PremiseBelow : (top : ℕ) → Premise → Type 0
-PremiseBelow top p = (p.left < top) × (p.right < top)
-
 -- nodes that a rule may make
 abbrev pub new_nodes : ℕ
 new_nodes = 4
@@ -76,7 +64,7 @@ top_after top (Err e) = top
 pub record Planned (Where : Policy → Goal → Type 0) (asked : Policy → Goal → Fit (List Atom)) (ws us : List ℕ) (top : ℕ) (r : Result Plan Misfit) : Type 0 where
   pub says : (policy : Policy) (g : Goal) → Where policy g → plan_of us r ≡ asked policy g
   pub grows : Grows ws us top (top_after top r)
-  pub below : IfOk r (λ p. All (PremiseBelow p.top) (listed p))
+  pub below : IfOk r (λ p. All (AtomBelow p.top) (listed p))
 
 -- ---- what is asked, and where
 abbrev pub Anywhere : Policy → Goal → Type 0

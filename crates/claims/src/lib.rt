@@ -2,16 +2,16 @@
 #![tactic(auto)]
 
 pub mod parts;
-pub mod plans;
+mod plans;
 
 ghost use Rattle.std.specs.Prelude.{◌≤◌};
 
-use model::Comparison;
+use nodes::Atom;
 
 // What a goal or a premise claims; terms are nodes of the table.
 #[derive(Clone, Copy)]
 pub enum Claim {
-    Atom(Comparison, usize, usize),
+    Atom(Atom),
     Readable(usize),
     Writable(usize),
 }
@@ -28,14 +28,6 @@ pub struct Goal {
 pub struct Scope {
     pub assumptions: usize,
     pub variables: usize,
-}
-
-// A comparison of two nodes, to be derived.
-#[derive(Clone, Copy)]
-pub struct Premise {
-    pub kind: Comparison,
-    pub left: usize,
-    pub right: usize,
 }
 
 // A rule of derivation with its argument: an index of an assumption, a node, or a region's number. In the order of the rule bytes.
@@ -71,11 +63,12 @@ pub enum Rule {
     ShiftBounded,
 }
 
-// What a rule asks of a claim that it fits: the first `count` of three premises; `top` is the table's new top.
+// What a rule asks of a claim that it fits: the first `count` of three premises; `top` is the table's new top. A rule fills a plan that it
+// is lent: returned by value it would be copied at each level of a derivation.
 #[derive(Clone, Copy)]
 pub struct Plan {
     pub count: usize,
-    pub premises: [Premise; 3],
+    pub premises: [Atom; 3],
     pub top: usize,
     ghost few: { count ≤ 3 },
 }

@@ -6,13 +6,13 @@ ghost use Rattle.model.specs.Atom.{compares, eq_atom};
 ghost use Rattle.model.specs.Verdict.{least_workspace};
 ghost use Rattle.workspace.specs.Layout.{most_assumptions};
 ghost use Rattle.nodes.specs.Table.{term_at, Formed};
-ghost use Rattle.assumptions.specs.Area.{entry_of, atom_in as assumption_in};
-ghost use Rattle.claims.specs.Plan.{atom_in, PremiseBelow};
+ghost use Rattle.nodes.specs.Atoms.{atom_in, AtomBelow};
+ghost use Rattle.assumptions.specs.Area.{entry_of};
 ghost use Rattle.claims.specs.Parts.{claim_of, ClaimBelow, access_of, operands_for, comparison_in, pair_in, valued_in, congruence_in, CongruenceBelow};
 
-use crate::{Claim, Premise};
+use crate::Claim;
 use model::{Comparison, Misfit, Right};
-use nodes::{Node, Operation};
+use nodes::{Atom, Node, Operation};
 
 // What makes two terms of one operation equal: a = c and b = d, for nodes a, b, c, d, or a = c alone, for a and c.
 #[derive(Clone, Copy)]
@@ -36,12 +36,12 @@ pub fn holds(kind: Comparison, a: u32, b: u32) -> bool
 
 // The comparison that a claim is.
 #[tactic(auto, unfolding(model::specs::Rule::atom_of))]
-pub fn comparison(claim: Claim) -> Result<Premise, Misfit>
+pub fn comparison(claim: Claim) -> Result<Atom, Misfit>
     ensures is { (ws : List ℕ) → comparison_in ws result ≡ atom_of (claim_of ws claim) }
-    ensures below { IfOk result (λ p. (top : ℕ) → ClaimBelow top claim → PremiseBelow top p) }
+    ensures below { IfOk result (λ a. (top : ℕ) → ClaimBelow top claim → AtomBelow top a) }
 {
     match claim {
-        Claim::Atom(kind, left, right) => Ok(Premise::new(kind, left, right)),
+        Claim::Atom(atom) => Ok(atom),
         _ => Err(Misfit),
     }
 }
@@ -135,16 +135,16 @@ pub fn is_constant(ws: &[u32], i: usize, value: u32) -> bool
 }
 
 // Whether a comparison of two nodes is assumption k, node by node.
-pub fn is_assumption(ws: &[u32], k: usize, claimed: Premise) -> bool
+pub fn is_assumption(ws: &[u32], k: usize, claimed: Atom) -> bool
     requires present { (k < most_assumptions) × (least_workspace ≤ length ws.now) }
     requires left_formed { Formed ws.now (suc claimed.left) }
     requires right_formed { Formed ws.now (suc claimed.right) }
     requires known_left_formed { Formed ws.now (suc (entry_of ws.now k).left) }
     requires known_right_formed { Formed ws.now (suc (entry_of ws.now k).right) }
-    ensures { result ≡ eq_atom (atom_in ws.now claimed) (assumption_in ws.now (entry_of ws.now k)) }
+    ensures { result ≡ eq_atom (atom_in ws.now claimed) (atom_in ws.now (entry_of ws.now k)) }
 {
     let known = assumptions::get(ws, k);
     claimed.kind == known.kind
-        && term_walks::same(ws, claimed.left, known.left)
-        && term_walks::same(ws, claimed.right, known.right)
+        && term_walks::equal(ws, claimed.left, known.left)
+        && term_walks::equal(ws, claimed.right, known.right)
 }

@@ -6,9 +6,15 @@ ghost use Rattle.std.specs.Io.KnownBytes.{Consumes, IsAtEnd};
 ghost use Rattle.console.specs.Counts.{IsPrefixLen};
 ghost use Rattle.console.specs.Words.{words_from};
 
+use limits::MOST_BYTES;
 use std::io::Read;
 use std::rt::Files;
 use std::{fs, io};
+
+// The bytes of a policy's and of a package's file that can decide the answer, and one more.
+pub const POLICY: usize = 6189;
+
+pub const ROUTINE: usize = MOST_BYTES + 1;
 
 // Reads until the buffer is full or the input ends, and answers how many bytes were read.
 #[tactic(auto, using(crate::proofs::Reading::more))]

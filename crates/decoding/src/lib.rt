@@ -91,8 +91,5 @@ pub fn target_of(instruction: Instruction) -> Option<u32>
 pub fn target_inside(count: usize, instruction: Instruction) -> bool
     ensures { result ≡ target_inside count instruction }
 {
-    match target_of(instruction) {
-        Some(target) => (target as usize) < count,
-        None => true,
-    }
+    target_of(instruction).is_none_or(|target| (target as usize) < count)
 }

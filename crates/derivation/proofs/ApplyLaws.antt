@@ -18,7 +18,9 @@ use Rattle.model.specs.declared.Region.{Region}
 use Rattle.model.proofs.Gives.{gives_value}
 use Rattle.model.proofs.Lists.{Every, every_head, every_tail}
 use Rattle.workspace.specs.Layout.{assumption_base, table_base, Same}
+use Rattle.nodes.specs.Atoms.{atom_in}
 use Rattle.nodes.specs.Table.{place, Formed}
+use Rattle.nodes.specs.declared.Atom.{Atom as NodeAtom}
 use Rattle.workspace.proofs.Frames.{same_trans, same_within}
 use Rattle.nodes.proofs.Table.{formed_same}
 use Rattle.term_reader.proofs.Substitution.{register_terms_same}
@@ -26,7 +28,7 @@ use Rattle.assumptions.specs.Area.{listed}
 use Rattle.assumptions.proofs.Laws.{held_kept, listed_kept}
 use Rattle.claims.specs.Parts.{claim_of, ClaimBelow}
 use Rattle.model_laws.specs.Bounded.{AtomBounded}
-use Rattle.claims.specs.Plan.{listed as premises_listed, premises_of, plan_of, asks, Planned, atom_in}
+use Rattle.claims.specs.Plan.{listed as premises_listed, premises_of, plan_of, asks, Planned}
 use Rattle.claims.specs.Rules.{rule_in}
 use Rattle.rule_reader.specs.Opening.{Opening, OpenedGrown}
 use Rattle.derivation.specs.Deriving.{Judged, Prepared, Plannable, Derivable, applied, Applies}
@@ -34,7 +36,6 @@ use Rattle.claims.specs.declared.Claim.{Claim}
 use Rattle.claims.specs.declared.Claim.TheVariants.{Atom as AtomClaim, Readable, Writable}
 use Rattle.claims.specs.declared.Scope.{Scope}
 use Rattle.claims.specs.declared.Plan.{Plan}
-use Rattle.claims.specs.declared.Premise.{Premise}
 use Rattle.rule_reader.specs.declared.Opened.{Opened}
 use Rattle.model_laws.proofs.Bounds.{premises_bounded, rule_read}
 use Rattle.model_laws.proofs.Steps.{stops, goes_on}
@@ -65,17 +66,17 @@ module _ {ws us : List ℕ} {top : ℕ} (s : Same 0 (place top) ws us) where
     }
 
 pub claim_kept : {ws us : List ℕ} (top : ℕ) (claim : Claim) → Same 0 (place top) ws us → ClaimBelow top claim → claim_of us claim ≡ claim_of ws claim
-claim_kept top (AtomClaim kind left right) s h = rw (kept_term s h.0, kept_term s h.1)
+claim_kept top (AtomClaim a) s h = rw (kept_term s h.0, kept_term s h.1)
 claim_kept top (Readable t) s h = rw (kept_term s h)
 claim_kept top (Writable t) s h = rw (kept_term s h)
 
 claim_higher : (top high : ℕ) (claim : Claim) → top ≤ high → ClaimBelow top claim → ClaimBelow high claim
-claim_higher top high (AtomClaim kind left right) h b = (omega (arith, b.0), omega (arith, b.1))
+claim_higher top high (AtomClaim a) h b = (omega (arith, b.0), omega (arith, b.1))
 claim_higher top high (Readable t) h b = omega arith
 claim_higher top high (Writable t) h b = omega arith
 
 -- what holds of every atom that premises say
-every_listed : (P : Atom → Type 0) (us : List ℕ) (xs : List Premise) → Every P (map (atom_in us) xs) → (k : ℕ) (d : Premise) → k < length xs → P (atom_in us (get_or xs k d))
+every_listed : (P : Atom → Type 0) (us : List ℕ) (xs : List NodeAtom) → Every P (map (atom_in us) xs) → (k : ℕ) (d : NodeAtom) → k < length xs → P (atom_in us (get_or xs k d))
 every_listed P us [] e k d h = absurd (omega arith)
 every_listed P us (x ∷ xs) e zero d h = every_head e
 every_listed P us (x ∷ xs) e (suc k) d h = every_listed P us xs (every_tail e) k d (omega arith)

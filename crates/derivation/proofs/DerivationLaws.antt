@@ -1,5 +1,5 @@
 -- Laws of the derivation checker: one for each way out, and one for a premise that is derived. Assumes nothing.
-use mathlib.Core.Path.{◌≡◌, refl, sym, ap, ◌∙◌}
+use mathlib.Core.Path.{◌≡◌, refl, sym, ap, subst, ◌∙◌}
 use mathlib.Core.List.{List, [], ◌∷◌}
 use Prim.Native.Nat.{ℕ, zero, suc, ◌+◌, ◌-◌, ◌*◌, ◌<◌, ◌≤◌}
 use native.Mathlib.Omega.{arith}
@@ -18,17 +18,20 @@ use Rattle.model.specs.Derivation.{rule_at, derive_all, derive}
 use Rattle.model.specs.declared.Refusal.{Refusal}
 use Rattle.model.specs.declared.Refusal.TheVariants.{UnfitRule, DeepDerivation}
 use Rattle.model.specs.declared.Region.{Region}
+use Rattle.model_laws.specs.Bounded.{ClaimBounded}
 use Rattle.workspace.specs.Layout.{Same}
+use Rattle.nodes.specs.Atoms.{atom_in}
 use Rattle.nodes.specs.Table.{place, Space}
+use Rattle.nodes.specs.declared.Atom.{Atom as NodeAtom}
 use Rattle.workspace.proofs.Frames.{same_refl, same_trans, same_within}
 use Rattle.claims.specs.Parts.{claim_of}
-use Rattle.claims.specs.Plan.{atom_in, listed, premise_claim, premises_of}
+use Rattle.claims.specs.Plan.{listed, premises_of}
 use Rattle.claims.specs.Regions.{RegionList}
 use Rattle.derivation.specs.Deriving.{Judged, Prepared, Derivable, applied, PremiseWithin, Applies, Derives, level_room}
 use Rattle.claims.specs.declared.Claim.{Claim}
+use Rattle.claims.specs.declared.Claim.TheVariants.{Atom as AtomClaim}
 use Rattle.claims.specs.declared.Scope.{Scope}
 use Rattle.claims.specs.declared.Plan.{Plan}
-use Rattle.claims.specs.declared.Premise.{Premise}
 use Rattle.model_laws.proofs.Steps.{stops, goes_on}
 use Rattle.derivation.proofs.ApplyLaws.{prepared_grown, prepared_kept, judged_kept, claim_kept}
 
@@ -74,7 +77,7 @@ module _ (bytes : List ℕ) (policy : Policy) (g : Goal) where
 -- ---- the premises that are due
 -- At the words us: the premises from number k on, from position `reached` on, are what is left of all of them from `next` on; the words vs
 -- had the plan's table too.
-pub record Running (bytes : List ℕ) (regions : List Region) (vs us : List ℕ) (scope : Scope) (levels top : ℕ) (due : List Premise) (next k reached : ℕ) : Type 0 where
+pub record Running (bytes : List ℕ) (regions : List Region) (vs us : List ℕ) (scope : Scope) (levels top : ℕ) (due : List NodeAtom) (next k reached : ℕ) : Type 0 where
   pub so_far : (policy : Policy) (g : Goal) → Judged regions vs scope policy g
       → derives bytes policy g (levels - 1) (map (atom_in vs) (drop k due)) reached ≡ derives bytes policy g (levels - 1) (map (atom_in vs) due) next
   pub before : Prepared vs top scope
@@ -85,25 +88,25 @@ pub record Running (bytes : List ℕ) (regions : List Region) (vs us : List ℕ)
   pub within : All (PremiseWithin vs top scope.variables) due
   pub onward : (next ≤ reached) × (reached ≤ length bytes)
 
-module _ {bytes : List ℕ} {regions : List Region} {vs us : List ℕ} {scope : Scope} {levels top : ℕ} {due : List Premise} {next k reached : ℕ} (w : Running bytes regions vs us scope levels top due next k reached) where
-  module _ (more : k < length due) (other : Premise) {c : Claim} (e : c ≡ premise_claim (get_or due k other)) where
+module _ {bytes : List ℕ} {regions : List Region} {vs us : List ℕ} {scope : Scope} {levels top : ℕ} {due : List NodeAtom} {next k reached : ℕ} (w : Running bytes regions vs us scope levels top due next k reached) where
+  module _ (more : k < length due) (other : NodeAtom) where
     within : PremiseWithin vs top scope.variables (get_or due k other)
     within = w.within k other more
 
-    claims : claim_of us c ≡ atom (atom_in vs (get_or due k other))
-    claims = ap (claim_of us) e ∙ claim_kept top (premise_claim (get_or due k other)) w.same within.below
+    claims : claim_of us (AtomClaim (get_or due k other)) ≡ atom (atom_in vs (get_or due k other))
+    claims = claim_kept top (AtomClaim (get_or due k other)) w.same within.below
 
     -- what the derivation of a premise asks
-    pub premise_asks : Derivable us regions scope (levels - 1) top c
+    pub premise_asks : Derivable us regions scope (levels - 1) top (AtomClaim (get_or due k other))
     premise_asks = record {
       prepared = prepared_kept w.same w.before w.long;
       regions_fit = w.regions_fit;
       space = record { words = omega (arith, w.long, w.space.words); fits = w.space.fits };
-      below = rw e within.below;
-      bounded = rw claims within.bounded;
+      below = within.below;
+      bounded = subst (ClaimBounded scope.variables) (sym claims) within.bounded;
     }
 
-    module _ {xs : List ℕ} {r : Result ℕ Refusal} (d : Derives bytes regions us xs scope (levels - 1) top c reached r) where
+    module _ {xs : List ℕ} {r : Result ℕ Refusal} (d : Derives bytes regions us xs scope (levels - 1) top (AtomClaim (get_or due k other)) reached r) where
       -- what its answer leads to
       pub followed : (policy : Policy) (g : Goal) → Judged regions vs scope policy g
           → (r >>= λ m. derives bytes policy g (levels - 1) (map (atom_in vs) (drop (k + 1) due)) m) ≡ derives bytes policy g (levels - 1) (map (atom_in vs) due) next
@@ -114,7 +117,7 @@ module _ {bytes : List ℕ} {regions : List Region} {vs us : List ℕ} {scope : 
           ∙ w.so_far policy g j
 
     -- the other premises are due
-    pub premise_derived : {xs : List ℕ} {m : ℕ} → Derives bytes regions us xs scope (levels - 1) top c reached (Ok m) → length xs ≡ length us → Running bytes regions vs xs scope levels top due next (k + 1) m
+    pub premise_derived : {xs : List ℕ} {m : ℕ} → Derives bytes regions us xs scope (levels - 1) top (AtomClaim (get_or due k other)) reached (Ok m) → length xs ≡ length us → Running bytes regions vs xs scope levels top due next (k + 1) m
     unfolding ◌>>=◌
     premise_derived d l = record {
       so_far = followed d;
@@ -153,7 +156,7 @@ module _ {bytes : List ℕ} {regions : List Region} {ws : List ℕ} {scope : Sco
 
     module _ {p : Plan} {next : ℕ} (a : Applies bytes regions ws vs scope top claim at (Ok (p, next))) where
       -- all premises are left
-      pub rule_applied : length vs ≡ length ws → {due : List Premise} → due ≡ listed p → Running bytes regions vs vs scope levels p.top due next 0 next
+      pub rule_applied : length vs ≡ length ws → {due : List NodeAtom} → due ≡ listed p → Running bytes regions vs vs scope levels p.top due next 0 next
       rule_applied l e = rw e (record {
         so_far = λ policy g j. refl;
         before = prepared_grown a.kept y.prepared a.standing.formed a.standing.above;
@@ -169,7 +172,7 @@ module _ {bytes : List ℕ} {regions : List Region} {ws : List ℕ} {scope : Sco
       whole : (policy : Policy) (g : Goal) → Judged regions ws scope policy g → derives bytes policy g (levels - 1) (premises_of vs p) next ≡ derive bytes policy g levels (claim_of ws claim) at
       whole policy g j = goes_on _ (a.says policy g j) refl ∙ unroll bytes policy g levels (claim_of ws claim) at d
 
-      module _ {us : List ℕ} {due : List Premise} (all : due ≡ listed p) {above : ℕ} (high : above ≡ p.top) {k reached : ℕ} (w : Running bytes regions vs us scope levels above due next k reached) where
+      module _ {us : List ℕ} {due : List NodeAtom} (all : due ≡ listed p) {above : ℕ} (high : above ≡ p.top) {k reached : ℕ} (w : Running bytes regions vs us scope levels above due next k reached) where
         all_kept : {xs : List ℕ} → Same 0 (place above) vs xs → Same 0 (place top) ws xs
         all_kept s = same_trans a.kept (same_within {hi = place above} 0 (place top) (omega arith) (omega (arith, high, a.standing.above)) s)
 
@@ -188,11 +191,11 @@ module _ {bytes : List ℕ} {regions : List Region} {ws : List ℕ} {scope : Sco
             }
 
         -- a premise is refused
-        pub premise_refused : (more : k < length due) (other : Premise) {c : Claim} (e : c ≡ premise_claim (get_or due k other)) {xs : List ℕ} {f : Refusal} → Derives bytes regions us xs scope (levels - 1) above c reached (Err f)
+        pub premise_refused : (more : k < length due) (other : NodeAtom) {xs : List ℕ} {f : Refusal} → Derives bytes regions us xs scope (levels - 1) above (AtomClaim (get_or due k other)) reached (Err f)
             → Derives bytes regions ws xs scope levels top claim at (Err f)
         unfolding ◌>>=◌
-        premise_refused more other e q = record {
-          answer = λ policy g j. followed w more other e q policy g (judged_kept a.kept y.prepared j) ∙ whole_due policy g j;
+        premise_refused more other q = record {
+          answer = λ policy g j. followed w more other q policy g (judged_kept a.kept y.prepared j) ∙ whole_due policy g j;
           kept = all_kept (same_trans w.same q.kept);
           onward = tt;
         }

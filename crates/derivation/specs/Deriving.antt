@@ -1,7 +1,7 @@
 -- Derivations in terms of the workspace: what they need, and what they owe. Assumes nothing.
 use Rattle.std.specs.Prelude.{◌≡◌, List, ℕ, ◌+◌, ◌*◌, ◌<◌, ◌≤◌, length, IfOk}
 use Rattle.std.specs.List.{All}
-use Rattle.model.specs.Result.{Result, Err, Ok, map_err, ◌>>=◌}
+use Rattle.model.specs.Result.{Result, Ok, map_err, ◌>>=◌, map_ok}
 use Rattle.model.specs.Atom.{Atom}
 use Rattle.model.specs.Policy.{Policy}
 use Rattle.model.specs.Goals.{Goal, Claim as Claimed, register_variables}
@@ -11,19 +11,20 @@ use Rattle.model.specs.declared.Refusal.{Refusal}
 use Rattle.model.specs.declared.Refusal.TheVariants.{UnfitRule}
 use Rattle.model.specs.Expression.{register_count, most_nodes}
 use Rattle.workspace.specs.Layout.{Same, most_variables}
+use Rattle.nodes.specs.Atoms.{atom_in, AtomBelow}
 use Rattle.nodes.specs.Table.{place, Formed, Space}
+use Rattle.nodes.specs.declared.Atom.{Atom as NodeAtom}
 use Rattle.term_reader.specs.Reader.{RegisterTerms}
 use Rattle.assumptions.specs.Area.{listed, Listed}
 use Rattle.forms.specs.Area.{Cleared}
 use Rattle.claims.specs.Parts.{claim_of, ClaimBelow}
 use Rattle.model_laws.specs.Bounded.{AtomBounded, ClaimBounded}
-use Rattle.claims.specs.Plan.{atom_in, listed as premises_listed, premises_of, PremiseBelow, new_nodes}
+use Rattle.claims.specs.Plan.{listed as premises_listed, premises_of, new_nodes}
 use Rattle.claims.specs.Regions.{RegionList}
 use Rattle.claims.specs.Rules.{RuleBelow}
 use Rattle.rule_reader.specs.Opening.{register_nodes}
 use Rattle.claims.specs.declared.Claim.{Claim}
 use Rattle.claims.specs.declared.Scope.{Scope}
-use Rattle.claims.specs.declared.Premise.{Premise}
 use Rattle.claims.specs.declared.Plan.{Plan}
 use Rattle.claims.specs.declared.Rule.{Rule}
 use Rattle.model.specs.declared.Region.{Region}
@@ -72,15 +73,18 @@ applied bytes policy g claim p = do
   atoms ← map_err (λ _. UnfitRule p) (premises policy g rule claim)
   Ok (atoms, q)
 
+-- the plan that has been filled, and the next position
+abbrev pub opened_in : Result ℕ Refusal → Plan → Result (Plan × ℕ) Refusal
+opened_in r p = map_ok (λ next. (p, next)) r
+
 -- the premises that an answer says in the words us
 abbrev pub applied_in : List ℕ → Result (Plan × ℕ) Refusal → Result (List Atom × ℕ) Refusal
-applied_in us (Ok x) = Ok (premises_of us x.0, x.1)
-applied_in us (Err f) = Err f
+applied_in us r = map_ok (λ x. (premises_of us x.0, x.1)) r
 
 -- a premise's nodes are below top, its variables among the first n
-pub record PremiseWithin (us : List ℕ) (top n : ℕ) (p : Premise) : Type 0 where
-  pub below : PremiseBelow top p
-  pub bounded : AtomBounded n (atom_in us p)
+pub record PremiseWithin (us : List ℕ) (top n : ℕ) (a : NodeAtom) : Type 0 where
+  pub below : AtomBelow top a
+  pub bounded : AtomBounded n (atom_in us a)
 
 -- a plan over a table that has grown from top, by the nodes of one level at most, and the position after the rule at p
 pub record Standing (bytes us : List ℕ) (n top at : ℕ) (p : Plan) (next : ℕ) : Type 0 where

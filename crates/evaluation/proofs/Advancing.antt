@@ -11,12 +11,13 @@ use Rattle.model.specs.declared.Instruction.{Instruction}
 use Rattle.decoding.specs.Decoding.{Formed}
 use Rattle.refusals.specs.declared.Refused.{Refused}
 use Rattle.setting.specs.declared.Setting.{Setting}
+use Rattle.setting.specs.Setting.{Stands}
 use Rattle.goals.specs.Judging.{Reached}
 use Rattle.goals.specs.declared.Progress.{Progress}
 use Rattle.paths.specs.Walking.{path_of}
 use Rattle.paths.specs.declared.Path.{Path}
 use Rattle.moves.specs.declared.Moved.{Moved}
-use Rattle.moves.specs.Moves.{MoveJudged, MovesIn, Assigns}
+use Rattle.moves.specs.Moves.{MoveJudged, Moves, Assigns}
 use Rattle.evaluation.specs.Walks.{Advances}
 
 -- an instruction's fields, once its kind is known
@@ -25,21 +26,21 @@ formed_as n f e = subst (Formed n) e f
 
 -- ---- the move of an instruction by another name
 module _ {ws us : List ℕ} {setting : Setting} {credit : Term} {path : Path} (instruction : Instruction) {p : Progress} {r : Result Moved Refused} where
-  pub advances : {what : Policy → Routine → Move} → ((policy : Policy) (routine : Routine) → what policy routine ≡ move policy routine credit (path_of ws path) instruction)
-      → MovesIn ws us setting credit what path p r → Advances ws us setting credit path instruction p r
-  advances e m = record {
-    judged = λ policy routine s. subst (λ (x : Move). MoveJudged setting.routine.bytes.now policy routine credit us x p r) (e policy routine) (m.judged policy routine s);
+  pub advances : {Where : Policy → Routine → Type 0} {what : Policy → Routine → Move} → ((policy : Policy) (routine : Routine) → Stands setting policy routine → Where policy routine) → ((policy : Policy) (routine : Routine) → what policy routine ≡ move policy routine credit (path_of ws path) instruction)
+      → Moves ws us setting.tables.routine.bytes.now Where credit what path p r → Advances ws us setting credit path instruction p r
+  advances w e m = record {
+    judged = λ policy routine s. subst (λ (x : Move). MoveJudged setting.tables.routine.bytes.now policy routine credit us x p r) (e policy routine) (m.judged policy routine (w policy routine s));
     kept = m.kept;
     leads = m.leads;
   }
 
   -- an assignment
-  pub assigns : {d : ℕ} {t : Term} → Reached setting.routine.bytes.now p → ((policy : Policy) (routine : Routine) → assign (path_of ws path) d t ≡ move policy routine credit (path_of ws path) instruction)
+  pub assigns : {d : ℕ} {t : Term} → Reached setting.tables.routine.bytes.now p → ((policy : Policy) (routine : Routine) → assign (path_of ws path) d t ≡ move policy routine credit (path_of ws path) instruction)
       → Assigns ws us path d t p r → Advances ws us setting credit path instruction p r
   assigns h e a =
-      let m = a.moves setting.routine.bytes.now credit h in
+      let m = a.moves setting.tables.routine.bytes.now credit h in
       record {
-        judged = λ policy routine s. subst (λ (x : Move). MoveJudged setting.routine.bytes.now policy routine credit us x p r) (e policy routine) (m.judged policy routine tt);
+        judged = λ policy routine s. subst (λ (x : Move). MoveJudged setting.tables.routine.bytes.now policy routine credit us x p r) (e policy routine) (m.judged policy routine tt);
         kept = m.kept;
         leads = m.leads;
       }

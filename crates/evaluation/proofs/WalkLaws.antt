@@ -4,7 +4,8 @@ use mathlib.Core.List.{List}
 use Prim.Native.Nat.{ℕ, ◌-◌, ◌<◌}
 use native.Mathlib.Omega.{arith}
 use lib.ListN.{length, get_or}
-use Rattle.std.specs.Prelude.{Option, None, Some}
+use Rattle.std.specs.Prelude.{Option, None, Some, IfOk}
+use Rattle.std.specs.Result.{result_unwrap_or}
 use Rattle.model.specs.Result.{Result, Err, Ok}
 use Rattle.model.specs.Term.{Term}
 use Rattle.model.specs.Policy.{Policy}
@@ -24,7 +25,7 @@ use Rattle.routine.proofs.Facts.{code_at}
 use Rattle.refusals.specs.declared.Refused.{Refused}
 use Rattle.setting.specs.declared.Setting.{Setting}
 use Rattle.setting.specs.Setting.{Stands}
-use Rattle.setting.proofs.Standing.{code_long}
+use Rattle.setting.proofs.Standing.{code_long, tables_stand}
 use Rattle.goals.specs.Judging.{JudgesTrace}
 use Rattle.goals.specs.declared.Progress.{Progress}
 use Rattle.paths.specs.Walking.{path_of, NodeIn, Kept}
@@ -39,26 +40,24 @@ use Rattle.jumps.proofs.Walking.{move_at, walk_past, walk_refused, walk_ended, w
 use Rattle.evaluation.specs.Walks.{Advances, Fetched, Walks}
 
 -- ---- the instruction at an index
-module _ (setting : Setting) {index : ℕ} (below : index < setting.routine.header.instructions) where
-  pub fetched : {x : Instruction} → Ok x ≡ instruction_at setting.routine.bytes.now setting.routine.header index → Formed setting.routine.header.instructions x → Fetched setting index x
-  fetched {x} e f = record {
+module _ (setting : Setting) {index : ℕ} (below : index < setting.tables.routine.header.instructions) where
+  pub fetched : (r : Result Instruction Refusal) → r ≡ instruction_at setting.tables.routine.bytes.now setting.tables.routine.header index → IfOk r (Formed setting.tables.routine.header.instructions) → Fetched setting index (result_unwrap_or r Return)
+  fetched (Ok x) e f = record {
     formed = f;
-    is = λ code c. let same : Ok x ≡ Ok (get_or code index Return) = e ∙ code_at setting.routine.bytes.now setting.routine.header c index Return below in cc;
+    is = λ code c. let same : Ok x ≡ Ok (get_or code index Return) = e ∙ code_at setting.tables.routine.bytes.now setting.tables.routine.header c index Return below in cc;
   }
-
-  pub not_fetched : {x : Refusal} → Err x ≡ instruction_at setting.routine.bytes.now setting.routine.header index → Fetched setting index Return
-  not_fetched {x} e = record {
+  fetched (Err x) e f = record {
     formed = tt;
-    is = λ code c. let same : Err x ≡ Ok (get_or code index Return) = e ∙ code_at setting.routine.bytes.now setting.routine.header c index Return below in absurd (cc);
+    is = λ code c. let same : Err x ≡ Ok (get_or code index Return) = e ∙ code_at setting.tables.routine.bytes.now setting.tables.routine.header c index Return below in absurd (cc);
   }
 
 -- ---- the walk
 module _ {ws : List ℕ} {setting : Setting} {path : Path} (credit : ℕ) {left : ℕ} {p : Progress} where
   -- nothing is left
-  pub walk_done : left ≡ 0 → Walks ws ws setting (term_at ws credit) left path p (Err (record { refusal = PastLast setting.routine.header.instructions; goals = p.goals }))
+  pub walk_done : left ≡ 0 → Walks ws ws setting (term_at ws credit) left path p (Err (record { refusal = PastLast setting.tables.routine.header.instructions; goals = p.goals }))
   walk_done e = record {
     judged = λ policy routine s.
-        subst (λ (n : ℕ). JudgesTrace setting.routine.bytes.now policy (walk policy routine (term_at ws credit) left (path_of ws path)) p (Err (record { refusal = PastLast n; goals = p.goals })))
+        subst (λ (n : ℕ). JudgesTrace setting.tables.routine.bytes.now policy (walk policy routine (term_at ws credit) left (path_of ws path)) p (Err (record { refusal = PastLast n; goals = p.goals })))
         (code_long setting s) (walk_past policy routine (term_at ws credit) (path_of ws path) e);
     low = same_refl _ _ _;
     reached = tt;
@@ -66,9 +65,9 @@ module _ {ws : List ℕ} {setting : Setting} {path : Path} (credit : ℕ) {left 
 
   module _ {us : List ℕ} {x : Instruction} (h : 0 < left) (f : Fetched setting path.counter x) where
     the_move : {m : Result Moved Refused} → Advances ws us setting (term_at ws credit) path x p m → (policy : Policy) (routine : Routine) → Stands setting policy routine
-        → MoveJudged setting.routine.bytes.now policy routine (term_at ws credit) us (move_at policy routine (term_at ws credit) (path_of ws path)) p m
+        → MoveJudged setting.tables.routine.bytes.now policy routine (term_at ws credit) us (move_at policy routine (term_at ws credit) (path_of ws path)) p m
     the_move {m} a policy routine s =
-        subst (λ (i : Instruction). MoveJudged setting.routine.bytes.now policy routine (term_at ws credit) us (move policy routine (term_at ws credit) (path_of ws path) i) p m) (sym (f.is routine.code s.code_read))
+        subst (λ (i : Instruction). MoveJudged setting.tables.routine.bytes.now policy routine (term_at ws credit) us (move policy routine (term_at ws credit) (path_of ws path) i) p m) (sym (f.is routine.code s.code_read))
         (a.judged policy routine s)
 
     moved_low : {m : Result Moved Refused} → Advances ws us setting (term_at ws credit) path x p m → Same 0 assumption_base ws us
@@ -100,28 +99,28 @@ module _ {ws : List ℕ} {setting : Setting} {path : Path} (credit : ℕ) {left 
       credit_same = node_equal a.kept n
 
       module _ {vs : List ℕ} where
-        there : {o : Result (Option Progress) Refused} → Arrives us vs setting (term_at us credit) after q o → (policy : Policy) (routine : Routine) → Stands setting policy routine
-            → ArrivedAs setting.routine.bytes.now policy (path_of us after) (term_at ws credit) (annotation_at routine.annotations after.counter) q o
-        there {o} b policy routine s = subst (λ (c : Term). ArrivedAs setting.routine.bytes.now policy (path_of us after) c (annotation_at routine.annotations after.counter) q o) credit_same (b.judged policy routine s)
+        there : {o : Result (Option Progress) Refused} → Arrives us vs setting.tables (term_at us credit) after q o → (policy : Policy) (routine : Routine) → Stands setting policy routine
+            → ArrivedAs setting.tables.routine.bytes.now policy (path_of us after) (term_at ws credit) (annotation_at routine.annotations after.counter) q o
+        there {o} b policy routine s = subst (λ (c : Term). ArrivedAs setting.tables.routine.bytes.now policy (path_of us after) c (annotation_at routine.annotations after.counter) q o) credit_same (b.judged policy routine (tables_stand setting s))
 
-        arrived_low : {o : Result (Option Progress) Refused} → Arrives us vs setting (term_at us credit) after q o → Same 0 assumption_base ws vs
+        arrived_low : {o : Result (Option Progress) Refused} → Arrives us vs setting.tables (term_at us credit) after q o → Same 0 assumption_base ws vs
         arrived_low b = same_trans (moved_low a) (same_within 0 assumption_base (omega arith) (omega (arith, after_room.assumed)) b.kept)
 
-        pub walk_arrives : {j : Progress} → Arrives us vs setting (term_at us credit) after q (Ok (Some j)) → Walks ws vs setting (term_at ws credit) left path p (Ok j)
+        pub walk_arrives : {j : Progress} → Arrives us vs setting.tables (term_at us credit) after q (Ok (Some j)) → Walks ws vs setting (term_at ws credit) left path p (Ok j)
         walk_arrives b = record {
           judged = λ policy routine s. let (note, is, judges) = there b policy routine s in walk_arrived policy routine (term_at ws credit) (path_of ws path) h (the_move a policy routine s) is judges;
           low = arrived_low b;
           reached = b.reached;
         }
 
-        pub walk_stops : {y : Refused} → Arrives us vs setting (term_at us credit) after q (Err y) → Walks ws vs setting (term_at ws credit) left path p (Err y)
+        pub walk_stops : {y : Refused} → Arrives us vs setting.tables (term_at us credit) after q (Err y) → Walks ws vs setting (term_at ws credit) left path p (Err y)
         walk_stops b = record {
           judged = λ policy routine s. let (note, is, judges) = there b policy routine s in walk_arrived policy routine (term_at ws credit) (path_of ws path) h (the_move a policy routine s) is judges;
           low = arrived_low b;
           reached = tt;
         }
 
-        module _ (b : Arrives us vs setting (term_at us credit) after q (Ok None)) where
+        module _ (b : Arrives us vs setting.tables (term_at us credit) after q (Ok None)) where
           after_kept : Kept us vs after
           after_kept = kept_same after (omega (arith, after_room.assumed)) b.kept
 
@@ -136,8 +135,8 @@ module _ {ws : List ℕ} {setting : Setting} {path : Path} (credit : ℕ) {left 
           walk_goes {xs} {j} w = record {
             judged = λ policy routine s.
                 walk_onward policy routine (term_at ws credit) (path_of ws path) h (the_move a policy routine s) (there b policy routine s)
-                (subst (λ (c : Term). JudgesTrace setting.routine.bytes.now policy (walk policy routine c (left - 1) (path_of us after)) q j) (node_equal after_kept after_credit ∙ credit_same)
-                (subst (λ (t : ModelPath). JudgesTrace setting.routine.bytes.now policy (walk policy routine (term_at vs credit) (left - 1) t) q j) (path_equal after_kept a.leads.0.path_in) (w.judged policy routine s)));
+                (subst (λ (c : Term). JudgesTrace setting.tables.routine.bytes.now policy (walk policy routine c (left - 1) (path_of us after)) q j) (node_equal after_kept after_credit ∙ credit_same)
+                (subst (λ (t : ModelPath). JudgesTrace setting.tables.routine.bytes.now policy (walk policy routine (term_at vs credit) (left - 1) t) q j) (path_equal after_kept a.leads.0.path_in) (w.judged policy routine s)));
             low = same_trans (arrived_low b) w.low;
             reached = w.reached;
           }

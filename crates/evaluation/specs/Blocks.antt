@@ -17,18 +17,18 @@ use Rattle.goals.specs.declared.Progress.{Progress}
 
 -- the trace is judged, and the words us are left for the next block
 pub record TraceJudged (us : List ℕ) (setting : Setting) (trace : Policy → Routine → Trace) (p : Progress) (r : Result Progress Refused) : Type 0 where
-  pub judged : (policy : Policy) (routine : Routine) → Stands setting policy routine → JudgesTrace setting.routine.bytes.now policy (trace policy routine) p r
+  pub judged : (policy : Policy) (routine : Routine) → Stands setting policy routine → JudgesTrace setting.tables.routine.bytes.now policy (trace policy routine) p r
   pub cleared : Cleared us
-  pub reached : IfOk r (Reached setting.routine.bytes.now)
+  pub reached : IfOk r (Reached setting.tables.routine.bytes.now)
 
 -- an annotation of the setting: there is one at its place, of that instruction
 pub record Noted (setting : Setting) (x : Annotated) : Type 0 where
-  pub placed : Placed setting.routine.bytes.now setting.routine.header x.at
-  pub indexed : x.index ≡ (annotation_at_place setting.routine.bytes.now setting.routine.header x.at).index
+  pub placed : Placed setting.tables.routine.bytes.now setting.tables.routine.header x.at
+  pub indexed : x.index ≡ (annotation_at_place setting.tables.routine.bytes.now setting.tables.routine.header x.at).index
 
 -- its block
 abbrev pub annotation_block_at : Setting → Annotated → Policy → Routine → Trace
-annotation_block_at setting x policy routine = annotation_block policy routine (annotation_at_place setting.routine.bytes.now setting.routine.header x.at)
+annotation_block_at setting x policy routine = annotation_block policy routine (annotation_at_place setting.tables.routine.bytes.now setting.tables.routine.header x.at)
 
 -- the blocks at all annotations
 abbrev pub all_annotation_blocks : Policy → Routine → Trace

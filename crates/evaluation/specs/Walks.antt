@@ -18,19 +18,19 @@ use Rattle.paths.specs.Walking.{path_of}
 use Rattle.paths.specs.declared.Path.{Path}
 use Rattle.goals.specs.declared.Progress.{Progress}
 use Rattle.moves.specs.declared.Moved.{Moved}
-use Rattle.moves.specs.Moves.{MovesIn}
+use Rattle.moves.specs.Moves.{Moves}
 
 -- what an instruction of a path owes
 abbrev pub Advances : (ws us : List ℕ) → Setting → (credit : Term) → Path → Instruction → Progress → Result Moved Refused → Type 0
-Advances ws us setting credit path instruction p r = MovesIn ws us setting credit (λ policy routine. move policy routine credit (path_of ws path) instruction) path p r
+Advances ws us setting credit path instruction p r = Moves ws us setting.tables.routine.bytes.now (Stands setting) credit (λ policy routine. move policy routine credit (path_of ws path) instruction) path p r
 
 -- the instruction of a code that checks 8 and 9 have passed
 pub record Fetched (setting : Setting) (index : ℕ) (r : Instruction) : Type 0 where
-  pub formed : Formed setting.routine.header.instructions r
-  pub is : (code : List Instruction) → read_code setting.routine.bytes.now setting.routine.header ≡ Ok code → get_or code index Return ≡ r
+  pub formed : Formed setting.tables.routine.header.instructions r
+  pub is : (code : List Instruction) → read_code setting.tables.routine.bytes.now setting.tables.routine.header ≡ Ok code → get_or code index Return ≡ r
 
 -- what the walk from a path on owes: its trace is judged, and the words below the assumptions are as they were
 pub record Walks (ws us : List ℕ) (setting : Setting) (credit : Term) (left : ℕ) (path : Path) (p : Progress) (r : Result Progress Refused) : Type 0 where
-  pub judged : (policy : Policy) (routine : Routine) → Stands setting policy routine → JudgesTrace setting.routine.bytes.now policy (walk policy routine credit left (path_of ws path)) p r
+  pub judged : (policy : Policy) (routine : Routine) → Stands setting policy routine → JudgesTrace setting.tables.routine.bytes.now policy (walk policy routine credit left (path_of ws path)) p r
   pub low : Same 0 assumption_base ws us
-  pub reached : IfOk r (Reached setting.routine.bytes.now)
+  pub reached : IfOk r (Reached setting.tables.routine.bytes.now)

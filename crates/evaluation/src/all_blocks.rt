@@ -13,19 +13,24 @@ use setting::Setting;
 // The block at instruction 0, which ends at once where 0 is annotated.
 fn entry(setting: &Setting, ws: &mut [u32], progress: Progress) -> Result<Progress, Refused>
     requires workspace { Workspace ws.old }
-    requires reached { Reached setting.now.routine.bytes.now progress }
+    requires reached { Reached setting.now.tables.routine.bytes.now progress }
     ensures { TraceJudged ws.new setting.now entry_block progress result }
 {
-    let block = blocks::entry_block(setting, ws);
+    let block = blocks::entry_block(
+        setting.conditions,
+        setting.policy.precondition,
+        setting.policy.limit,
+        ws,
+    );
     let path = block.path;
     let credit = block.credit;
-    match jumps::arrive(setting, ws, credit, path, progress)? {
+    match jumps::arrive(&setting.tables, ws, credit, path, progress)? {
         Some(after) => Ok(after),
         None => walks::walk(
             setting,
             ws,
             credit,
-            setting.routine.header.instructions,
+            setting.tables.routine.header.instructions,
             path,
             progress,
         ),
@@ -40,23 +45,25 @@ fn annotation(
     progress: Progress,
 ) -> Result<Progress, Refused>
     requires workspace { Workspace ws.old }
-    requires reached { Reached setting.now.routine.bytes.now progress }
+    requires reached { Reached setting.now.tables.routine.bytes.now progress }
     requires noted { Noted setting.now annotated }
     ensures { TraceJudged ws.new setting.now (annotation_block_at setting.now annotated) progress result }
 {
-    let block = blocks::annotation_block(setting, annotated, ws);
-    let left = setting.routine.header.instructions - annotated.index;
+    let bytes = setting.tables.routine.bytes;
+    let end = setting.tables.routine.proof_start();
+    let block = blocks::annotation_block(bytes, end, annotated, ws);
+    let left = setting.tables.routine.header.instructions - annotated.index;
     walks::walk(setting, ws, block.credit, left, block.path, progress)
 }
 
 // The blocks at the annotations, in order.
 fn annotations(setting: &Setting, ws: &mut [u32], start: Progress) -> Result<Progress, Refused>
     requires workspace { Workspace ws.old }
-    requires reached { Reached setting.now.routine.bytes.now start }
+    requires reached { Reached setting.now.tables.routine.bytes.now start }
     ensures { TraceJudged ws.new setting.now all_annotation_blocks start result }
 {
     let mut progress = start;
-    for annotated in setting.annotations {
+    for annotated in setting.tables.annotations {
         progress = annotation(setting, ws, *annotated, progress)?;
     }
     Ok(progress)
@@ -69,7 +76,7 @@ pub fn evaluate_blocks(
     start: Progress,
 ) -> Result<Progress, Refused>
     requires workspace { Workspace ws.old }
-    requires reached { Reached setting.now.routine.bytes.now start }
+    requires reached { Reached setting.now.tables.routine.bytes.now start }
     ensures { TraceJudged ws.new setting.now trace_of start result }
 {
     let progress = entry(setting, ws, start)?;

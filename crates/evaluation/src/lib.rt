@@ -22,19 +22,15 @@ use setting::Setting;
 // of the proof is left.
 pub fn evaluate(setting: &Setting, ws: &mut [u32]) -> Result<usize, Refused>
     requires { Workspace ws.old }
-    ensures { (policy : ModelPolicy) (routine : Routine) → Stands setting.now policy routine → verdict_of result ≡ judge setting.now.routine.bytes.now policy (trace_of policy routine) routine.proof 0 }
+    ensures { (policy : ModelPolicy) (routine : Routine) → Stands setting.now policy routine → verdict_of result ≡ judge setting.now.tables.routine.bytes.now policy (trace_of policy routine) routine.proof 0 }
 {
     let start = Progress {
-        at: setting.routine.proof_start(),
+        at: setting.tables.routine.proof_start(),
         goals: 0,
     };
     let progress = all_blocks::evaluate_blocks(setting, ws, start)?;
-    let goals = progress.goals;
-    if progress.at != setting.routine.bytes.len() {
-        return Err(Refused {
-            refusal: Refusal::ProofLeft(progress.at),
-            goals,
-        });
+    if progress.at != setting.tables.routine.bytes.len() {
+        return Err(progress.refused(Refusal::ProofLeft(progress.at)));
     }
-    Ok(goals)
+    Ok(progress.goals)
 }

@@ -7,6 +7,7 @@ ghost use Rattle.paths.specs.Walking.{NodeIn};
 ghost use Rattle.moves.specs.Moves.{RoomFor};
 ghost use Rattle.evaluation.specs.Walks.{Fetched, Advances, Walks};
 
+use derivation::Grounds;
 use goals::Progress;
 use model::{Comparison, Instruction, Refusal};
 use moves::{Moved, assignments};
@@ -18,13 +19,10 @@ use setting::Setting;
 
 // The instruction at an index; checks 8 and 9 have passed it.
 fn fetch(setting: &Setting, index: usize) -> Instruction
-    requires { index < setting.now.routine.header.instructions }
+    requires { index < setting.now.tables.routine.header.instructions }
     ensures { Fetched setting.now index result }
 {
-    match instructions::instruction(&setting.routine, index) {
-        Ok(instruction) => instruction,
-        Err(_) => Instruction::Return,
-    }
+    instructions::instruction(&setting.tables.routine, index).unwrap_or(Instruction::Return)
 }
 
 // One instruction of a path.
@@ -38,10 +36,15 @@ fn advance(
 ) -> Result<Moved, Refused>
     requires room_for { RoomFor ws.old path 1 }
     requires credit_in { NodeIn ws.old path credit }
-    requires reached { Reached setting.now.routine.bytes.now progress }
-    requires formed { Formed setting.now.routine.header.instructions instruction }
+    requires reached { Reached setting.now.tables.routine.bytes.now progress }
+    requires formed { Formed setting.now.tables.routine.header.instructions instruction }
     ensures { Advances ws.old ws.new setting.now (term_at ws.old credit) path instruction progress result }
 {
+    let tables = &setting.tables;
+    let grounds = Grounds {
+        bytes: tables.routine.bytes,
+        regions: tables.regions,
+    };
     match instruction {
         Instruction::Set { d, i } => assignments::set(ws, path, d, i, progress),
         Instruction::Add { d, a, b } => {
@@ -53,18 +56,30 @@ fn advance(
         Instruction::Subtract { d, a, b } => {
             assignments::combine(ws, path, Operation::Difference, d, a, b, progress)
         }
-        Instruction::Load { d, a, i } => accesses::load(setting, ws, path, d, a, i, progress),
-        Instruction::Store { d: _, a, i } => accesses::store(setting, ws, path, a, i, progress),
-        Instruction::Jump { i } => jumps::jump_to(setting, ws, credit, path, i, progress),
+        Instruction::Load { d, a, i } => accesses::load(&grounds, ws, path, d, a, i, progress),
+        Instruction::Store { d: _, a, i } => accesses::store(&grounds, ws, path, a, i, progress),
+        Instruction::Jump { i } => jumps::jump_to(tables, ws, credit, path, i, progress),
         Instruction::JumpLess { a, b, i } => {
             let kind = Comparison::Less;
-            jumps::branch_to(setting, ws, credit, path, kind, a, b, i, progress)
+            jumps::branch_to(tables, ws, credit, path, kind, a, b, i, progress)
         }
         Instruction::JumpEqual { a, b, i } => {
             let kind = Comparison::Equal;
-            jumps::branch_to(setting, ws, credit, path, kind, a, b, i, progress)
+            jumps::branch_to(tables, ws, credit, path, kind, a, b, i, progress)
         }
-        Instruction::Return => jumps::return_from(setting, ws, credit, path, progress),
+        Instruction::Return => {
+            let conditions = setting.conditions;
+            let postcondition = setting.policy.postcondition;
+            jumps::return_from(
+                &grounds,
+                conditions,
+                postcondition,
+                ws,
+                credit,
+                path,
+                progress,
+            )
+        }
         Instruction::Mask { d, a, i } => {
             assignments::combine_immediate(ws, path, Operation::Mask, d, a, i, progress)
         }
@@ -83,20 +98,18 @@ pub fn walk(
 ) -> Result<Progress, Refused>
     requires room_for { RoomFor ws.old path left }
     requires credit_in { NodeIn ws.old path credit }
-    requires reached { Reached setting.now.routine.bytes.now progress }
-    requires all_left { path.counter + left ≡ setting.now.routine.header.instructions }
+    requires reached { Reached setting.now.tables.routine.bytes.now progress }
+    requires all_left { path.counter + left ≡ setting.now.tables.routine.header.instructions }
     ensures { Walks ws.old ws.new setting.now (term_at ws.old credit) left path progress result }
 {
     if left == 0 {
-        return Err(Refused {
-            refusal: Refusal::PastLast(setting.routine.header.instructions),
-            goals: progress.goals,
-        });
+        let refusal = Refusal::PastLast(setting.tables.routine.header.instructions);
+        return Err(progress.refused(refusal));
     }
     let instruction = fetch(setting, path.counter);
     match advance(setting, ws, credit, path, instruction, progress)? {
         Moved::Ended(next) => Ok(next),
-        Moved::On(after, next) => match jumps::arrive(setting, ws, credit, after, next)? {
+        Moved::On(after, next) => match jumps::arrive(&setting.tables, ws, credit, after, next)? {
             Some(done) => Ok(done),
             None => walk(setting, ws, credit, left - 1, after, next),
         },

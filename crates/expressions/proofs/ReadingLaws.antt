@@ -6,7 +6,7 @@ use mathlib.Core.List.{List, ◌∷◌}
 use mathlib.Core.Option.{Option, none, some}
 use native.Mathlib.Omega.{arith}
 use lib.ListN.{get_or, get_elem?}
-use Rattle.model.specs.Result.{Result, Err, Ok, ◌>>=◌, found, misfit}
+use Rattle.model.specs.Result.{Result, Err, Ok, ◌>>=◌, found, misfit, map_ok}
 use Rattle.std.specs.Result.{is_err}
 use Rattle.model.specs.declared.Misfit.{Misfit}
 use Rattle.model.specs.declared.ReadError.{ReadError}
@@ -57,12 +57,11 @@ module _ {A : Type 0} where
 -- ---- an expression
 
 -- where a scan ends
-ended : Result Scanned ReadError → Result ℕ ReadError
-ended (Err e) = Err e
-ended (Ok s) = Ok s.next
+abbrev ended : Result Scanned ReadError → Result ℕ ReadError
+ended r = map_ok (λ s. s.next) r
 
 ended_scan : (x : Nodes) → ended (scanned_of x) ≡ ends (x >>= λ y. Ok (y.0, y.1))
-unfolding ended scanned_of ends ◌>>=◌
+unfolding scanned_of ends ◌>>=◌
 ended_scan (Err e) = refl
 ended_scan (Ok y) = refl
 
@@ -72,11 +71,9 @@ module _ (bytes : List ℕ) (end limit at : ℕ) where
   expression_end r scans = ap ended (scans most_nodes (omega arith)) ∙ ended_scan (nodes_at bytes end limit most_nodes most_nodes at)
 
   pub expression_stops : (e : ReadError) → ((depth : ℕ) → most_nodes ≤ depth → Err e ≡ scanned_of (nodes_at bytes end limit depth most_nodes at)) → Err e ≡ ends (expression_at bytes end limit at)
-  unfolding ended
   expression_stops e scans = expression_end (Err e) scans
 
   pub expression_read : (s : Scanned) → ((depth : ℕ) → most_nodes ≤ depth → Ok s ≡ scanned_of (nodes_at bytes end limit depth most_nodes at)) → Ok s.next ≡ ends (expression_at bytes end limit at)
-  unfolding ended
   expression_read s scans = expression_end (Ok s) scans
 
   -- ---- an atom

@@ -5,7 +5,6 @@ use Rattle.model.specs.Derivation.{most_levels}
 use Rattle.nodes.specs.Table.{Space}
 use Rattle.atom_reader.specs.AtomReader.{atom_nodes}
 use Rattle.derivation.specs.Deriving.{level_room}
-use Rattle.setting.specs.declared.Setting.{Setting}
 use Rattle.paths.specs.declared.Path.{Path}
 use Rattle.paths.specs.Walking.{PathIn}
 use Rattle.goals.specs.declared.Progress.{Progress}
@@ -25,7 +24,7 @@ abbrev pub goal_room : ℕ
 goal_room = most_nodes + atom_nodes + 3 + derivation_room
 
 -- goals of the path can be derived, with so much room above its top
-pub record Going (ws : List ℕ) (setting : Setting) (room : ℕ) (path : Path) (p : Progress) : Type 0 where
+pub record Going (ws : List ℕ) (bytes : List ℕ) (room : ℕ) (path : Path) (p : Progress) : Type 0 where
   pub inside : PathIn ws path
   pub space : Space ws path.top room
-  pub reached : Reached setting.routine.bytes.now p
+  pub reached : Reached bytes p

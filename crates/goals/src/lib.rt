@@ -1,20 +1,18 @@
 // One goal, and the goals of atoms: each is made, derived at once where the proof has been read to, counted and forgotten.
 #![tactic(auto)]
 
-ghost use Rattle.std.specs.Prelude.{◌≤◌, length};
+ghost use Rattle.std.specs.Prelude.{◌≡◌, ◌≤◌, length};
 ghost use Rattle.claims.specs.Parts.{claim_of};
 ghost use Rattle.paths.specs.Walking.{ClaimIn};
 ghost use Rattle.goals.specs.Room.{Going, derivation_room, atom_room};
 ghost use Rattle.goals.specs.Settling.{GoalJudged, AtomsJudged};
 
 use claims::{Claim, Goal, Scope};
-use leaf_reader::Source;
-use limits::REGISTERS;
+use derivation::Grounds;
 use model::Refusal;
 use paths::Path;
 use policy::Condition;
 use refusals::Refused;
-use setting::Setting;
 
 // Where the proof has been read to, and how many goals are derived.
 #[derive(Clone, Copy)]
@@ -23,17 +21,29 @@ pub struct Progress {
     pub goals: usize,
 }
 
+impl Progress {
+    // A refusal, with the goals derived by now.
+    pub fn refused(self, refusal: Refusal) -> Refused
+        ensures { result ≡ record { refusal = refusal; goals = self.goals } }
+    {
+        Refused {
+            refusal,
+            goals: self.goals,
+        }
+    }
+}
+
 // One claim of the path, derived where the proof has been read to: the progress after it, or the refusal and the goals derived by then.
 pub fn goal(
-    setting: &Setting,
+    grounds: &Grounds,
     ws: &mut [u32],
     path: Path,
     claim: Claim,
     progress: Progress,
 ) -> Result<Progress, Refused>
-    requires going { Going ws.old setting.now derivation_room path progress }
+    requires going { Going ws.old grounds.now.bytes.now derivation_room path progress }
     requires claim_in { ClaimIn ws.old path claim }
-    ensures { GoalJudged ws.old ws.new setting.now path progress result (claim_of ws.old claim) }
+    ensures { GoalJudged ws.old ws.new grounds.now.bytes.now grounds.now.regions.now path progress result (claim_of ws.old claim) }
 {
     let made = Goal {
         claim,
@@ -43,22 +53,19 @@ pub fn goal(
         assumptions: path.assumptions,
         variables: path.variables,
     };
-    let bytes = setting.routine.bytes;
-    let regions = setting.regions();
-    let goals = progress.goals;
-    match derivation::check_goal(bytes, regions, ws, scope, path.top, made, progress.at) {
+    match derivation::check_goal(grounds, scope, ws, path.top, made, progress.at) {
         Ok(at) => Ok(Progress {
             at,
-            goals: goals + 1,
+            goals: progress.goals + 1,
         }),
-        Err(refusal) => Err(Refused { refusal, goals }),
+        Err(refusal) => Err(progress.refused(refusal)),
     }
 }
 
 // The goals of a condition's atoms, which stand in `bytes`, over the path's registers. Check 6 or 11 has read them before, so that they can be
 // read here.
 pub fn atoms(
-    setting: &Setting,
+    grounds: &Grounds,
     bytes: &[u8],
     end: usize,
     condition: Condition,
@@ -67,30 +74,21 @@ pub fn atoms(
     progress: Progress,
 ) -> Result<Progress, Refused>
     requires end_in_bounds { end ≤ length bytes.now }
-    requires going { Going ws.old setting.now atom_room path progress }
-    ensures { AtomsJudged ws.old ws.new setting.now path progress result bytes.now end condition }
+    requires going { Going ws.old grounds.now.bytes.now atom_room path progress }
+    ensures { AtomsJudged ws.old ws.new grounds.now.bytes.now grounds.now.regions.now path progress result bytes.now end condition }
 {
     if condition.atoms == 0 {
         return Ok(progress);
     }
-    let registers = path.registers;
-    let source = Source {
-        bytes,
-        end,
-        limit: REGISTERS,
-        registers,
-    };
+    let source = path.source(bytes, end);
     let Ok(read) = atom_reader::atom(&source, ws, condition.at, path.top) else {
-        return Err(Refused {
-            refusal: Refusal::AnnotationBytes(condition.at),
-            goals: progress.goals,
-        });
+        return Err(progress.refused(Refusal::AnnotationBytes(condition.at)));
     };
-    let claim = Claim::Atom(read.kind, read.left, read.right);
-    let after = goal(setting, ws, path.raised(read.top), claim, progress)?;
+    let claim = Claim::Atom(read.atom);
+    let after = goal(grounds, ws, path.raised(read.top), claim, progress)?;
     let rest = Condition {
         at: read.next,
         atoms: condition.atoms - 1,
     };
-    atoms(setting, bytes, end, rest, ws, path, after)
+    atoms(grounds, bytes, end, rest, ws, path, after)
 }

@@ -1,10 +1,9 @@
 -- What reading a package answers, in the definitions' terms. Assumes nothing.
-use Rattle.model.specs.Result.{Result, Ok, Err}
+use Rattle.model.specs.Result.{Result, map_ok}
 use Rattle.model.specs.declared.Header.{Header}
 use Rattle.model.specs.declared.Refusal.{Refusal}
 use Rattle.header.specs.declared.package.Package.{Package}
 
 -- the header of the package, or the refusal
 abbrev pub headed : Result Package Refusal → Result Header Refusal
-headed (Ok p) = Ok p.header
-headed (Err x) = Err x
+headed r = map_ok (λ p. p.header) r

@@ -4,8 +4,8 @@
 pub mod finder;
 pub mod package;
 
-ghost use Rattle.std.specs.Prelude.{◌≡◌, IfOk};
-ghost use Rattle.model.specs.Package.{read_header};
+ghost use Rattle.std.specs.Prelude.{◌≡◌, ◌≤◌, IfOk};
+ghost use Rattle.model.specs.Package.{most_bytes, proof_start, read_header};
 ghost use Rattle.header.specs.Headers.{Fits};
 ghost use Rattle.header.specs.Packages.{headed};
 
@@ -41,6 +41,14 @@ pub fn read_header(bytes: &[u8]) -> Result<Header, Refusal>
         section,
         proof,
     })
+}
+
+// Where the proof starts in a package with this header.
+pub fn proof_start(header: Header) -> usize
+    requires { proof_start header ≤ most_bytes }
+    ensures { result ≡ proof_start header }
+{
+    12 + 8 * header.instructions + header.section
 }
 
 // The package that stands in these bytes, or what check 7 refuses.

@@ -25,6 +25,6 @@ impl<'a> Package<'a> {
     pub fn proof_start(&self) -> usize
         ensures { result ≡ proof_start self.now.header }
     {
-        self.annotation_start() + self.header.section
+        crate::proof_start(self.header)
     }
 }

@@ -19,7 +19,7 @@ pub extern "C" fn pcc_check(
 {
     let verdict = loader::check(workspace, policy, routine);
     *answer = [
-        verdict.number as u64,
+        u64::from(verdict.number),
         verdict.place as u64,
         verdict.goals as u64,
     ];
@@ -39,9 +39,9 @@ pub extern "C" fn pcc_run(
 {
     let outcome = loader::run(policy, routine, registers, memory, budget);
     *answer = [
-        outcome.number as u64,
+        u64::from(outcome.number),
         outcome.place as u64,
-        outcome.steps as u64,
+        u64::from(outcome.steps),
     ];
 }
 
@@ -49,10 +49,7 @@ pub extern "C" fn pcc_run(
 fn start(bytes: &[u8]) -> usize
     ensures { result ≡ (proof_section bytes.now).start }
 {
-    match header::read_package(bytes) {
-        Ok(routine) => routine.proof_start(),
-        Err(_) => 0,
-    }
+    header::read_package(bytes).map_or(0, |routine| routine.proof_start())
 }
 
 // loader::find_answer and loader::find_proof: number, place and the proof section's start go into `answer`, its length is the result.
@@ -62,6 +59,10 @@ pub extern "C" fn pcc_find_proof(routine: &[u8], answer: &mut [u64; 3]) -> usize
 {
     let finding = loader::find_answer(routine);
     let start = start(routine);
-    *answer = [finding.number as u64, finding.place as u64, start as u64];
+    *answer = [
+        u64::from(finding.number),
+        finding.place as u64,
+        start as u64,
+    ];
     loader::find_proof(routine).len()
 }

@@ -9,53 +9,50 @@ ghost use Rattle.nodes.specs.Table.{term_at};
 ghost use Rattle.goals.specs.Judging.{Reached};
 ghost use Rattle.paths.specs.Walking.{path_of, NodeIn};
 ghost use Rattle.goals.specs.Room.{Going, goal_room};
-ghost use Rattle.moves.specs.Moves.{RoomFor, MovesIn};
-ghost use Rattle.jumps.specs.Jumps.{opposite_of, Branches, Arrives};
+ghost use Rattle.moves.specs.Moves.{RoomFor, Moves};
+ghost use Rattle.jumps.specs.Jumps.{opposite_of, MovesBy, Returning, Branches, Arrives};
 
 use arrivals;
-use assumptions::Assumption;
+use derivation::Grounds;
 use goals::Progress;
 use model::{Comparison, Refusal};
 use moves::Moved;
+use nodes::Atom;
 use paths::Path;
+use policy::Condition;
 use refusals::Refused;
-use setting::Setting;
+use setting::Tables;
 use targets::search;
 
 // The goals of a path's arrival at its counter, if that is annotated: the progress after them, or the refusal and the goals derived by then.
 pub fn arrive(
-    setting: &Setting,
+    tables: &Tables,
     ws: &mut [u32],
     credit: usize,
     path: Path,
     progress: Progress,
 ) -> Result<Option<Progress>, Refused>
-    requires going { Going ws.old setting.now goal_room path progress }
+    requires going { Going ws.old tables.now.routine.bytes.now goal_room path progress }
     requires credit_in { NodeIn ws.old path credit }
     requires counter_in { path.counter ≤ most_instructions }
-    ensures { Arrives ws.old ws.new setting.now (term_at ws.old credit) path progress result }
+    ensures { Arrives ws.old ws.new tables.now (term_at ws.old credit) path progress result }
 {
-    let Some(k) = search::position(setting.annotations, path.counter) else {
+    let Some(k) = search::position(tables.annotations, path.counter) else {
         return Ok(None);
     };
-    let at = setting.annotations[k].at;
-    let after = arrivals::arrival(setting, at, ws, path, credit, progress)?;
+    let at = tables.annotations[k].at;
+    let end = tables.routine.proof_start();
+    let grounds = Grounds {
+        bytes: tables.routine.bytes,
+        regions: tables.regions,
+    };
+    let after = arrivals::arrival(&grounds, end, at, ws, path, credit, progress)?;
     Ok(Some(after))
-}
-
-// A jump whose target is not annotated; check 12 has seen that there is none.
-fn unannotated(path: Path, progress: Progress) -> Refused
-    ensures { result ≡ record { refusal = Refusal.Unannotated path.counter; goals = progress.goals } }
-{
-    Refused {
-        refusal: Refusal::Unannotated(path.counter),
-        goals: progress.goals,
-    }
 }
 
 // jump to a target
 pub fn jump_to(
-    setting: &Setting,
+    tables: &Tables,
     ws: &mut [u32],
     credit: usize,
     path: Path,
@@ -64,48 +61,34 @@ pub fn jump_to(
 ) -> Result<Moved, Refused>
     requires room_for { RoomFor ws.old path 1 }
     requires credit_in { NodeIn ws.old path credit }
-    requires reached { Reached setting.now.routine.bytes.now progress }
+    requires reached { Reached tables.now.routine.bytes.now progress }
     requires target_in { target ≤ most_instructions }
-    ensures { MovesIn ws.old ws.new setting.now (term_at ws.old credit) (λ policy routine. jump policy routine (term_at ws.old credit) (path_of ws.old path) (path_to (path_of ws.old path) target) ends) path progress result }
+    ensures { MovesBy ws.old ws.new tables.now (term_at ws.old credit) (λ policy routine. jump policy routine (term_at ws.old credit) (path_of ws.old path) (path_to (path_of ws.old path) target) ends) path progress result }
 {
     let there = path.stepped(target as usize);
-    let Some(after) = arrive(setting, ws, credit, there, progress)? else {
-        return Err(unannotated(path, progress));
+    let Some(after) = arrive(tables, ws, credit, there, progress)? else {
+        // Check 12 has seen that the target is annotated.
+        return Err(progress.refused(Refusal::Unannotated(path.counter)));
     };
     Ok(Moved::Ended(after))
 }
 
 // The comparison that holds where another does not.
-fn opposite(kind: Comparison, left: usize, right: usize) -> Assumption
-    ensures { result ≡ opposite_of kind left right }
+fn opposite(claimed: Atom) -> Atom
+    ensures { result ≡ opposite_of claimed.kind claimed.left claimed.right }
 {
+    let Atom { kind, left, right } = claimed;
     match kind {
-        Comparison::Equal => Assumption {
-            kind: Comparison::Unequal,
-            left,
-            right,
-        },
-        Comparison::Unequal => Assumption {
-            kind: Comparison::Equal,
-            left,
-            right,
-        },
-        Comparison::Less => Assumption {
-            kind: Comparison::AtMost,
-            left: right,
-            right: left,
-        },
-        Comparison::AtMost => Assumption {
-            kind: Comparison::Less,
-            left: right,
-            right: left,
-        },
+        Comparison::Equal => Atom::new(Comparison::Unequal, left, right),
+        Comparison::Unequal => Atom::new(Comparison::Equal, left, right),
+        Comparison::Less => Atom::new(Comparison::AtMost, right, left),
+        Comparison::AtMost => Atom::new(Comparison::Less, right, left),
     }
 }
 
 // jump to a target if a comparison of registers a and b holds: the goals of the taken edge, where the condition is assumed, and then on with the opposite
 pub fn branch_to(
-    setting: &Setting,
+    tables: &Tables,
     ws: &mut [u32],
     credit: usize,
     path: Path,
@@ -117,26 +100,28 @@ pub fn branch_to(
 ) -> Result<Moved, Refused>
     requires room_for { RoomFor ws.old path 1 }
     requires credit_in { NodeIn ws.old path credit }
-    requires reached { Reached setting.now.routine.bytes.now progress }
+    requires reached { Reached tables.now.routine.bytes.now progress }
     requires target_in { target ≤ most_instructions }
     requires registers { (a < register_count) × (b < register_count) }
-    ensures { Branches ws.old ws.new setting.now (term_at ws.old credit) path kind a b target progress result }
+    ensures { Branches ws.old ws.new tables.now (term_at ws.old credit) path kind a b target progress result }
 {
-    let left = path.node(a);
-    let right = path.node(b);
+    let taken = Atom::new(kind, path.node(a), path.node(b));
     let stepped = path.stepped(target as usize);
-    let there = blocks::assuming(ws, stepped, Assumption { kind, left, right });
-    let Some(after) = arrive(setting, ws, credit, there, progress)? else {
-        return Err(unannotated(path, progress));
+    let there = blocks::assuming(ws, stepped, taken);
+    let Some(after) = arrive(tables, ws, credit, there, progress)? else {
+        // Check 12 has seen that the target is annotated.
+        return Err(progress.refused(Refusal::Unannotated(path.counter)));
     };
     let next = path.stepped(path.counter + 1);
-    let on = blocks::assuming(ws, next, opposite(kind, left, right));
+    let on = blocks::assuming(ws, next, opposite(taken));
     Ok(Moved::On(on, after))
 }
 
-// return: the postcondition's atoms, and the credit
+// return: the postcondition's atoms, which stand in `conditions`, and the credit
 pub fn return_from(
-    setting: &Setting,
+    grounds: &Grounds,
+    conditions: &[u8],
+    postcondition: Condition,
     ws: &mut [u32],
     credit: usize,
     path: Path,
@@ -144,9 +129,17 @@ pub fn return_from(
 ) -> Result<Moved, Refused>
     requires room_for { RoomFor ws.old path 1 }
     requires credit_in { NodeIn ws.old path credit }
-    requires reached { Reached setting.now.routine.bytes.now progress }
-    ensures { MovesIn ws.old ws.new setting.now (term_at ws.old credit) (λ policy routine. ends (returning (path_of ws.old path) (term_at ws.old credit) policy.postcondition)) path progress result }
+    requires reached { Reached grounds.now.bytes.now progress }
+    ensures { Moves ws.old ws.new grounds.now.bytes.now (Returning conditions.now postcondition grounds.now.regions.now) (term_at ws.old credit) (λ policy routine. ends (returning (path_of ws.old path) (term_at ws.old credit) policy.postcondition)) path progress result }
 {
-    let after = arrivals::returning(setting, ws, path, credit, progress)?;
+    let after = arrivals::returning(
+        grounds,
+        conditions,
+        postcondition,
+        ws,
+        path,
+        credit,
+        progress,
+    )?;
     Ok(Moved::Ended(after))
 }

@@ -1,6 +1,6 @@
 -- What reading into the term table answers and needs, and what the readers of a constant and of a variable owe. Assumes nothing.
 use Rattle.std.specs.Prelude.{true, false, List, ℕ, ◌+◌, ◌<◌, ◌≤◌, ltb, get_or, IfOk}
-use Rattle.model.specs.Result.{Result, Err, Ok}
+use Rattle.model.specs.Result.{Result, map_ok}
 use Rattle.model.specs.Term.{Term, constant, variable, sum, difference, mask, shift}
 use Rattle.model.specs.declared.ReadError.{ReadError}
 use Rattle.model.specs.Expression.{Form, Nodes, node_of, register_count}
@@ -18,13 +18,8 @@ over σ (difference s t) = difference (over σ s) (over σ t)
 over σ (mask s t) = mask (over σ s) (over σ t)
 over σ (shift count s) = shift count (over σ s)
 
--- what is read, changed where it is a value
-unfoldable pub mapped : {E A B : Type 0} → (A → B) → Result A E → Result B E
-mapped f (Err e) = Err e
-mapped f (Ok a) = Ok (f a)
-
 abbrev pub nodes_over : (σ : ℕ → Term) → Nodes → Nodes
-nodes_over σ x = mapped (λ y. (over σ y.0, y.1, y.2)) x
+nodes_over σ x = map_ok (λ y. (over σ y.0, y.1, y.2)) x
 
 -- variable v in the table: the term of the register's node, if it is a register's, else itself
 unfoldable pub variable_term : (ws registers : List ℕ) → ℕ → Term
@@ -36,8 +31,7 @@ node_in ws source operand form left at = nodes_over (variable_term ws source.reg
 
 -- what an answer says in the words us
 abbrev pub nodes_answer : List ℕ → Result Parsed ReadError → Nodes
-nodes_answer us (Err e) = Err e
-nodes_answer us (Ok x) = Ok (term_at us x.node, x.next, x.left)
+nodes_answer us r = map_ok (λ x. (term_at us x.node, x.next, x.left)) r
 
 -- ---- the contracts
 -- what a reader needs: a table with room for the nodes left, and registers that are nodes of it

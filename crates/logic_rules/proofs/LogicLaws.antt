@@ -9,7 +9,8 @@ use Rattle.model.specs.Term.{Term, closed, eval}
 use Rattle.model.specs.Atom.{Atom, compares, holds}
 use Rattle.std.specs.Prelude.{Some, None, if◌then◌else◌}
 use Rattle.term_walks.specs.Closed.{closed_value}
-use Rattle.assumptions.specs.Area.{entry_of, atom_in, listed}
+use Rattle.nodes.specs.Atoms.{atom_in}
+use Rattle.assumptions.specs.Area.{entry_of, listed}
 use Rattle.assumptions.proofs.Laws.{listed_at, listed_past}
 use Rattle.model_laws.proofs.Steps.{not_found, is_found}
 

@@ -3,12 +3,13 @@
 
 ghost use Rattle.nodes.specs.Table.{Formed, Space};
 ghost use Rattle.claims.specs.Parts.{claim_of, ClaimBelow};
-ghost use Rattle.claims.specs.Plan.{new_nodes, Planned, asks};
+ghost use Rattle.claims.specs.Plan.{filled, new_nodes, Planned, asks};
 ghost use Rattle.claims.specs.Regions.{RegionList, Over};
 ghost use Rattle.memory_rules.specs.Access.{region_rule};
 
-use claims::{Claim, Plan, Premise, parts, plans};
+use claims::{Claim, Plan, parts};
 use model::{Comparison, Misfit, Region, Right};
+use nodes::Atom;
 
 // Rules 22 and 23: readable(t), writable(t), from base ≤ t, t < base plus length, region j having the right. Two new nodes.
 pub fn in_region(
@@ -17,14 +18,15 @@ pub fn in_region(
     claim: Claim,
     right: Right,
     j: usize,
-    top: usize,
-) -> Result<Plan, Misfit>
+    plan: &mut Plan,
+) -> Result<(), Misfit>
     requires region_list { RegionList regions.now }
-    requires formed { Formed ws.old top }
-    requires space { Space ws.old top new_nodes }
-    requires claim_below { ClaimBelow top claim }
-    ensures { Planned (Over regions.now) (asks (region_rule right j) (claim_of ws.old claim)) ws.old ws.new top result }
+    requires formed { Formed ws.old plan.old.top }
+    requires space { Space ws.old plan.old.top new_nodes }
+    requires claim_below { ClaimBelow plan.old.top claim }
+    ensures { Planned (Over regions.now) (asks (region_rule right j) (claim_of ws.old claim)) ws.old ws.new plan.old.top (filled result plan.new) }
 {
+    let top = plan.top;
     let (asked, t) = parts::accessed(claim)?;
     if asked != right {
         return Err(Misfit);
@@ -35,9 +37,10 @@ pub fn in_region(
     }
     terms::put_constant(ws, top, region.base);
     terms::put_constant(ws, top + 1, region.base + region.size);
-    Ok(plans::two(
-        Premise::new(Comparison::AtMost, top, t),
-        Premise::new(Comparison::Less, t, top + 1),
-        top + 2,
-    ))
+    plan.top = top + 2;
+    plan.ask([
+        Atom::new(Comparison::AtMost, top, t),
+        Atom::new(Comparison::Less, t, top + 1),
+    ]);
+    Ok(())
 }

@@ -21,6 +21,11 @@ unfoldable pub found : {A E : Type 0} → Option A → E → Result A E
 found none e = Err e
 found (some a) e = Ok a
 
+-- the value in other terms
+abbrev pub map_ok : {A B E : Type 0} → (A → B) → Result A E → Result B E
+map_ok f (Err e) = Err e
+map_ok f (Ok a) = Ok (f a)
+
 -- the error in other terms
 unfoldable pub map_err : {A E F : Type 0} → (E → F) → Result A E → Result A F
 map_err f (Err e) = Err (f e)

@@ -12,8 +12,6 @@ use Rattle.model.specs.declared.Verdict.{Verdict}
 use Rattle.model.specs.declared.Refusal.TheVariants.{LargeTerm}
 use Rattle.workspace.specs.Layout.{most_assumptions, most_table_nodes, Same, most_variables}
 use Rattle.nodes.specs.Table.{term_at, place}
-use Rattle.setting.specs.declared.Setting.{Setting}
-use Rattle.setting.specs.Setting.{Stands}
 use Rattle.goals.specs.Judging.{Reached}
 use Rattle.paths.specs.Walking.{path_of, raised_to, NodeIn, PathIn, stepped_to, written_to, Kept}
 use Rattle.goals.specs.Room.{goal_room}
@@ -79,10 +77,6 @@ pub record Moves (ws us bytes : List ℕ) (Where : Policy → Routine → Type 0
   pub judged : (policy : Policy) (routine : Routine) → Where policy routine → MoveJudged bytes policy routine credit us (what policy routine) p r
   pub kept : Kept ws us path
   pub leads : Leads us bytes path r
-
--- the same where they are those of a setting
-abbrev pub MovesIn : (ws us : List ℕ) → Setting → (credit : Term) → (what : Policy → Routine → Move) → Path → Progress → Result Moved Refused → Type 0
-MovesIn ws us setting credit what path p r = Moves ws us setting.routine.bytes.now (Stands setting) credit what path p r
 
 -- register d takes a node where its term is small enough, and else it is refused
 unfoldable pub assigned_as : Bool → Path → (d node : ℕ) → Progress → Result Moved Refused

@@ -23,10 +23,7 @@ fn assign(ws: &[u32], path: Path, d: u8, node: usize, progress: Progress) -> Res
     ensures { result ≡ assigned_as (leb (size (term_at ws.now node)) most_term_nodes) path d node progress }
 {
     if !nodes::small(ws, node) {
-        return Err(Refused {
-            refusal: Refusal::LargeTerm(path.counter),
-            goals: progress.goals,
-        });
+        return Err(progress.refused(Refusal::LargeTerm(path.counter)));
     }
     let after = path.written(d, node).stepped(path.counter + 1);
     Ok(Moved::On(after, progress))

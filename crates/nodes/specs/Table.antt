@@ -6,6 +6,8 @@ use Rattle.model.specs.Word.{add_w, sub_w, mask_w}
 use Rattle.model.specs.Verdict.{least_workspace}
 use Rattle.model.specs.Goals.{most_term_nodes}
 use Rattle.workspace.specs.Layout.{most_variables, table_base, most_table_nodes, hint_base, Same}
+use Rattle.nodes.specs.declared.Flag.{Flag}
+use Rattle.nodes.specs.declared.Flag.TheVariants.{Closed, Valued, Plain}
 use Rattle.nodes.specs.declared.Node.{Node}
 use Rattle.nodes.specs.declared.Node.TheVariants.{Constant, Variable, Pair, Shift}
 use Rattle.nodes.specs.declared.Operation.{Operation}
@@ -35,6 +37,12 @@ marks_at ws i = get_or ws (place i + 2) 0
 -- whether node i holds a value, by its marks: it is closed and plain
 abbrev pub valued_at : List ℕ → ℕ → Bool
 valued_at ws i = eqb (marks_at ws i / 16 % 2) 1
+
+-- the value of a flag's bit in marks
+abbrev pub flag_value : Flag → ℕ
+flag_value Closed = 8
+flag_value Valued = 16
+flag_value Plain = 32
 
 -- the tag of an operation's nodes
 abbrev pub operation_tag : Operation → ℕ

@@ -6,9 +6,11 @@
 ghost use Rattle.std.specs.Prelude.{◌≡◌, suc, ◌+◌, ◌*◌, ◌/◌, ◌%◌, ◌≤◌, ◌<◌, length, set, eqb, leb};
 ghost use Rattle.model.specs.Term.{closed as isClosed, size as size_of};
 ghost use Rattle.model.specs.Goals.{most_term_nodes};
-ghost use Rattle.nodes.specs.Table.{low as low_of, high as high_of, operation_tag, linear as isLinear, parts_at, value_at, marks_at, valued_at, view_of, term_at, plain as isPlain, size_cap, place, Shaped, Formed};
+ghost use Rattle.nodes.specs.Atoms.{node_atom};
+ghost use Rattle.nodes.specs.Table.{low as low_of, high as high_of, flag_value, operation_tag, linear as isLinear, parts_at, value_at, marks_at, valued_at, view_of, term_at, plain as isPlain, size_cap, place, Shaped, Formed};
 
 use limits::MOST_TERM_NODES;
+use model::Comparison;
 use workspace::TABLE;
 
 // An operation on two terms, with the tag of its nodes.
@@ -19,6 +21,14 @@ pub enum Operation {
     Mask = 4,
 }
 
+// What the marks of a node say, each by a bit: its term is closed; the node holds its value; its term is plain, no mask or shift stands in it.
+#[derive(Clone, Copy)]
+pub enum Flag {
+    Closed = 8,
+    Valued = 16,
+    Plain = 32,
+}
+
 // A node of the table: an operation names its parts by node number; a shift has its count first.
 #[derive(Clone, Copy)]
 pub enum Node {
@@ -26,6 +36,23 @@ pub enum Node {
     Variable(u32),
     Pair(Operation, usize, usize),
     Shift(u32, usize),
+}
+
+// A comparison of two nodes, as an atom of their terms.
+#[derive(Clone, Copy)]
+pub struct Atom {
+    pub kind: Comparison,
+    pub left: usize,
+    pub right: usize,
+}
+
+impl Atom {
+    // A comparison of two nodes.
+    pub fn new(kind: Comparison, left: usize, right: usize) -> Atom
+        ensures { result ≡ node_atom kind left right }
+    {
+        Atom { kind, left, right }
+    }
 }
 
 impl Operation {
@@ -116,25 +143,12 @@ pub fn set_value(ws: &mut [u32], i: usize, value: u32)
     ws[TABLE + 3 * i + 1] = value;
 }
 
-// Whether marks are those of a closed term.
-pub fn is_closed(marks: u32) -> bool
-    ensures { result ≡ eqb (marks / 8 % 2) 1 }
+// Whether a flag is set in marks.
+pub fn flagged(marks: u32, flag: Flag) -> bool
+    ensures { result ≡ eqb (marks / flag_value flag % 2) 1 }
 {
-    marks / 8 % 2 == 1
-}
-
-// Whether marks are those of a node that holds a value.
-pub fn is_valued(marks: u32) -> bool
-    ensures { result ≡ eqb (marks / 16 % 2) 1 }
-{
-    marks / 16 % 2 == 1
-}
-
-// Whether marks are those of a plain term, in which no mask or shift stands.
-pub fn is_plain(marks: u32) -> bool
-    ensures { result ≡ eqb (marks / 32 % 2) 1 }
-{
-    marks / 32 % 2 == 1
+    let bit = flag as u32;
+    marks / bit % 2 == 1
 }
 
 // The size in marks: the cap if it is more.
@@ -149,7 +163,7 @@ pub fn holds_value(ws: &[u32], i: usize) -> bool
     requires { place (suc i) ≤ length ws.now }
     ensures { result ≡ valued_at ws.now i }
 {
-    is_valued(marks(ws, i))
+    flagged(marks(ws, i), Flag::Valued)
 }
 
 // Node i, in words that need not be a table.
@@ -196,7 +210,7 @@ pub fn closed(ws: &[u32], i: usize) -> bool
     requires { Formed ws.now (suc i) }
     ensures { result ≡ isClosed (term_at ws.now i) }
 {
-    is_closed(marks(ws, i))
+    flagged(marks(ws, i), Flag::Closed)
 }
 
 // Whether no mask or shift stands in node i's term.
@@ -204,7 +218,7 @@ pub fn plain(ws: &[u32], i: usize) -> bool
     requires { Formed ws.now (suc i) }
     ensures { result ≡ isPlain (term_at ws.now i) }
 {
-    is_plain(marks(ws, i))
+    flagged(marks(ws, i), Flag::Plain)
 }
 
 // Whether node i's term has at most so many nodes, below the cap.

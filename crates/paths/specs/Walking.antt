@@ -7,6 +7,7 @@ use Rattle.model.specs.Goals.{Path as ModelPath}
 use Rattle.model_laws.specs.Bounded.{ClaimBounded}
 use Rattle.workspace.specs.Layout.{table_base, Same}
 use Rattle.nodes.specs.Table.{term_at, place}
+use Rattle.leaf_reader.specs.declared.sources.Source.{Source}
 use Rattle.assumptions.specs.Area.{slot, listed}
 use Rattle.claims.specs.declared.Claim.{Claim}
 use Rattle.claims.specs.declared.Scope.{Scope}
@@ -40,6 +41,14 @@ written_to p d node = record { counter = p.counter; steps = p.steps; variables =
 -- one variable more
 abbrev pub one_variable : Path → Path
 one_variable p = record { counter = p.counter; steps = p.steps; variables = p.variables + 1; assumptions = p.assumptions; top = p.top; registers = p.registers }
+
+-- ---- what is read
+-- a source has these bytes, up to the end, and stands over the path's registers
+pub record OverRegisters (p : Path) (bytes : List ℕ) (end : ℕ) (s : Source) : Type 0 where
+  pub bytes_are : s.bytes.now ≡ bytes
+  pub end_is : s.end ≡ end
+  pub limit_is : s.limit ≡ register_count
+  pub registers_are : s.registers ≡ p.registers
 
 -- ---- what lies in the words
 -- how many assumptions and variables a derivation may name

@@ -1,12 +1,13 @@
 // A path of a block, and its changes.
 #![tactic(auto)]
 
-ghost use Rattle.std.specs.Prelude.{◌≡◌, ◌<◌, ◌^◌, get_or};
+ghost use Rattle.std.specs.Prelude.{◌≡◌, ◌<◌, ◌≤◌, ◌^◌, get_or, length};
 ghost use Rattle.model.specs.Expression.{register_count};
 ghost use Rattle.model.specs.Package.{most_instructions};
 ghost use Rattle.workspace.specs.Layout.{most_variables};
-ghost use Rattle.paths.specs.Walking.{raised_to, stepped_to, written_to, one_variable};
+ghost use Rattle.paths.specs.Walking.{raised_to, stepped_to, written_to, one_variable, OverRegisters};
 
+use leaf_reader::Source;
 use limits::REGISTERS;
 
 // A path of a block: where it has come to, instructions run, variables so far, assumptions so far, the top of the term table, and each
@@ -56,6 +57,20 @@ impl Path {
         ensures { result ≡ get_or self.registers register 0 }
     {
         self.registers[usize::from(register)] as usize
+    }
+
+    // Bytes to be read up to an end, over the path's registers.
+    pub fn source<'a>(self, bytes: &'a [u8], end: usize) -> Source<'a>
+        requires { end ≤ length bytes.now }
+        ensures { OverRegisters self bytes.now end result }
+    {
+        let registers = self.registers;
+        Source {
+            bytes,
+            end,
+            limit: REGISTERS,
+            registers,
+        }
     }
 
     // One variable more.

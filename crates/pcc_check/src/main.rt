@@ -1,13 +1,9 @@
 // The check program: judges the routine of routine.bin under the policy of policy.bin, and prints the verdict.
 #![tactic(auto)]
 
-use limits::{LEAST_WORKSPACE, MOST_BYTES};
+use console::{POLICY, ROUTINE};
+use limits::LEAST_WORKSPACE;
 use std::io;
-
-// The bytes of each file that can decide the answer, and one more.
-const POLICY: usize = 6189;
-
-const ROUTINE: usize = MOST_BYTES + 1;
 
 fn main(rt: HostRuntime) -> io::Result<()> {
     let mut policy = [0; POLICY];

@@ -5,15 +5,12 @@ ghost use Rattle.std.specs.Prelude.{◌≡◌, ◌≤◌, length};
 ghost use Rattle.model.specs.Runner.{run_of};
 ghost use Rattle.pcc_run.specs.Start.{most_start, budget_in, register_words, memory_words, registers_in, memory_in};
 
-use limits::{MOST_BYTES, MOST_MEMORY, REGISTERS};
+use console::{POLICY, ROUTINE};
+use limits::{MOST_MEMORY, REGISTERS};
 use model::Outcome;
 use std::io;
 
-// The bytes of each file that can decide the answer, and one more.
-const POLICY: usize = 6189;
-
-const ROUTINE: usize = MOST_BYTES + 1;
-
+// The bytes of a start file that can decide the answer, and one more.
 const START: usize = 4 * (MEMORY_AT + MEMORY);
 
 // The words of memory that can decide the answer, and where the first of them stands in a start file, after the budget and the registers.

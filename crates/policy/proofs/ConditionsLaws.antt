@@ -1,18 +1,19 @@
 -- The ways out of the functions that read the conditions. Assumes nothing.
 use Prim.Native.Nat.{ℕ, ◌≤◌, max}
-use mathlib.Core.Path.{◌≡◌, refl}
+use mathlib.Core.Path.{◌≡◌, refl, ap, ◌∙◌}
 use mathlib.Core.List.{List}
 use native.Mathlib.Omega.{arith}
 use lib.ListN.{length}
 use borrow.Author.Tests.{eq-eqb, ne_eqb}
+use Rattle.std.specs.Prelude.{IfOk, MatchResult}
+use Rattle.std.specs.Result.{IsErrAnd}
 use Rattle.model.specs.Result.{Result, Err, Ok, ◌>>=◌, check, map_err}
 use Rattle.model.specs.Atom.{Atom}
 use Rattle.model.specs.declared.ReadError.{ReadError}
-use Rattle.model.specs.declared.ReadError.TheVariants.{Missing, Fault}
 use Rattle.model.specs.Policy.{policy_field, policy_refusal}
 use Rattle.model.specs.declared.Sizes.{Sizes}
 use Rattle.model.specs.declared.Refusal.{Refusal}
-use Rattle.model.specs.declared.Refusal.TheVariants.{PolicyLength, PolicyExpression}
+use Rattle.model.specs.declared.Refusal.TheVariants.{PolicyLength}
 use Rattle.expressions.specs.Reading.{ends}
 use Rattle.expressions.proofs.ReadingLaws.{read_next, read_stops}
 use Rattle.policy.specs.declared.Condition.{Condition}
@@ -24,22 +25,26 @@ module _ (bytes : List ℕ) (c : Condition) where
   unfolding condition_end ◌>>=◌ map_err
   condition_stops e h = rw (read_stops (condition_at bytes c.atoms c.at) e h)
 
-  pub condition_missing : (e : ReadError) → e ≡ Missing → Err e ≡ ends (condition_at bytes c.atoms c.at) → Err (PolicyLength (length bytes)) ≡ condition_end bytes c
-  unfolding policy_refusal
-  condition_missing e is h = condition_stops Missing (rw is at h)
-
-  pub condition_fault : (e : ReadError) (place : ℕ) → e ≡ Fault place → Err e ≡ ends (condition_at bytes c.atoms c.at) → Err (PolicyExpression place) ≡ condition_end bytes c
-  unfolding policy_refusal
-  condition_fault e place is h = condition_stops (Fault place) (rw is at h)
-
   module _ (next : ℕ) (h : Ok next ≡ ends (condition_at bytes c.atoms c.at)) where
-    pub condition_ends : Ok next ≡ condition_end bytes c
+    condition_ends : Ok next ≡ condition_end bytes c
     unfolding condition_end ◌>>=◌ map_err
     condition_ends = rw (read_next (condition_at bytes c.atoms c.at) next h).1
 
-    pub condition_stands : c.at ≤ length bytes → next ≤ max c.at (length bytes) → Stands bytes c next
+    condition_stands : c.at ≤ length bytes → next ≤ max c.at (length bytes) → Stands bytes c next
     unfolding atoms_in atoms_of
     condition_stands l m = record { read = rw (read_next (condition_at bytes c.atoms c.at) next h).1; inside = omega arith }
+
+  -- the atoms' answer, with its error as the policy's refusal
+  module _ {P : ReadError → Refusal → Type 0} (says : (e : ReadError) (x : Refusal) → P e x → x ≡ policy_refusal bytes e) where
+    pub condition_read : (m : Result ℕ ReadError) (r : Result ℕ Refusal) → m ≡ ends (condition_at bytes c.atoms c.at) → MatchResult m (λ next. r ≡ Ok next) (λ e. IsErrAnd r (P e)) → r ≡ condition_end bytes c
+    condition_read (Ok next) r h e = e ∙ condition_ends next h
+    condition_read (Err e) (Ok next) h p = elim p [ ]
+    condition_read (Err e) (Err x) h p = ap Err (says e x p) ∙ condition_stops e h
+
+  pub condition_read_whole : (P : ReadError → Refusal → Type 0) (m : Result ℕ ReadError) (r : Result ℕ Refusal) → m ≡ ends (condition_at bytes c.atoms c.at) → MatchResult m (λ next. r ≡ Ok next) (λ e. IsErrAnd r (P e)) → c.at ≤ length bytes → IfOk m (λ next. next ≤ max c.at (length bytes)) → IfOk r (Stands bytes c)
+  condition_read_whole P (Ok next) r h e l i = rw e (condition_stands next h l i)
+  condition_read_whole P (Err e) (Ok next) h p l i = elim p [ ]
+  condition_read_whole P (Err e) (Err x) h p l i = tt
 
 -- read_conditions
 -- a condition whose end is refused

@@ -1,6 +1,6 @@
 -- The policy's two conditions: their reading, in the definitions' terms. Assumes nothing.
 use Rattle.std.specs.Prelude.{ℕ, ◌≤◌, ◌≡◌, List, [], length, eqb}
-use Rattle.model.specs.Result.{Result, Err, Ok, ◌>>=◌, check}
+use Rattle.model.specs.Result.{Result, Err, Ok, ◌>>=◌, check, map_ok}
 use Rattle.model.specs.Atom.{Atom}
 use Rattle.model.specs.declared.ReadError.{ReadError}
 use Rattle.model.specs.Expression.{register_count, atoms_at}
@@ -40,8 +40,7 @@ module _ (bytes : List ℕ) where
 
   -- both conditions read, or why the policy is refused
   unfoldable pub conditions_result : Result (Condition × Condition) Refusal → Result (List Atom × List Atom) Refusal
-  conditions_result (Err r) = Err r
-  conditions_result (Ok (pre, post)) = Ok (atoms_in pre, atoms_in post)
+  conditions_result r = map_ok (λ x. (atoms_in x.0, atoms_in x.1)) r
 
   -- a condition is read whole, up to the next position
   pub record Stands (c : Condition) (next : ℕ) : Type 0 where

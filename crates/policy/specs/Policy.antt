@@ -1,6 +1,6 @@
 -- What reading a policy owes. Assumes nothing.
 use Rattle.std.specs.Prelude.{ℕ, ◌+◌, ◌≤◌, ◌≡◌, List, length, All}
-use Rattle.model.specs.Result.{Result, Err, Ok}
+use Rattle.model.specs.Result.{Result, map_ok}
 use Rattle.model.specs.Atom.{most_atoms}
 use Rattle.model.specs.Policy as model
 use Rattle.model.specs.declared.Refusal.{Refusal}
@@ -23,8 +23,7 @@ module _ (bytes : List ℕ) where
 
   -- the policy read, or why it is refused
   unfoldable pub policy_result : Result Policy Refusal → Result model.Policy Refusal
-  policy_result (Err r) = Err r
-  policy_result (Ok p) = Ok (policy_of p)
+  policy_result r = map_ok policy_of r
 
   -- what holds of a policy that passed
   pub record Checked (p : Policy) : Type 0 where

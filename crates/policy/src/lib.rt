@@ -33,11 +33,12 @@ fn read_condition(bytes: &[u8], condition: Condition) -> Result<usize, Refusal>
     ensures end { result ≡ condition_end bytes.now condition }
     ensures stands { IfOk result (λ next. Stands bytes.now condition next) }
 {
-    match expressions::atoms(bytes, bytes.len(), REGISTERS, condition.atoms, condition.at) {
-        Ok(next) => Ok(next),
-        Err(ReadError::Missing) => Err(Refusal::PolicyLength(bytes.len())),
-        Err(ReadError::Fault(place)) => Err(Refusal::PolicyExpression(place)),
-    }
+    expressions::atoms(bytes, bytes.len(), REGISTERS, condition.atoms, condition.at).map_err(
+        |error| match error {
+            ReadError::Missing => Refusal::PolicyLength(bytes.len()),
+            ReadError::Fault(place) => Refusal::PolicyExpression(place),
+        },
+    )
 }
 
 // The two conditions, from a position on, if both are read and nothing stands after them.

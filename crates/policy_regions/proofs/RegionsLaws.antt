@@ -10,7 +10,7 @@ use lib.Dec.{leb}
 use lib.Seq.{take-suc-set}
 use borrow.Author.Tests.{leb-true}
 use Rattle.std.specs.List.{All}
-use Rattle.model.specs.Result.{Result, Err, Ok, ◌>>=◌, check}
+use Rattle.model.specs.Result.{Result, Err, Ok, ◌>>=◌, check, map_ok}
 use Rattle.model.specs.Policy.{most_regions, region_at, region_fits, regions_from}
 use Rattle.model.specs.declared.Region.{Region}
 use Rattle.model.specs.declared.Sizes.{Sizes}
@@ -34,8 +34,7 @@ module _ (bytes : List ℕ) (sizes : Sizes) (j : ℕ) (r : Region) (is : r ≡ r
 
 -- what was read in front of the rest
 unfoldable pub after : List Region → Result (List Region) Refusal → Result (List Region) Refusal
-after front (Err r) = Err r
-after front (Ok rest) = Ok (front ++ rest)
+after front r = map_ok (λ rest. front ++ rest) r
 
 -- After j regions: the whole reading is what is in the list so far, and the reading from here.
 pub record Going (bytes : List ℕ) (sizes : Sizes) (list : List Region) (j : ℕ) : Type 0 where

@@ -1,6 +1,6 @@
 -- What is read of the regions, in the definitions' terms. Assumes nothing.
 use Rattle.std.specs.Prelude.{ℕ, ◌+◌, ◌≤◌, ◌≡◌, List, length, take, All}
-use Rattle.model.specs.Result.{Result, Err, Ok, ◌>>=◌, check}
+use Rattle.model.specs.Result.{Result, Ok, ◌>>=◌, check, map_ok}
 use Rattle.model.specs.Policy.{region_at, region_fits}
 use Rattle.model.specs.declared.Region.{Region}
 use Rattle.model.specs.declared.Sizes.{Sizes}
@@ -14,8 +14,7 @@ listed regions = take regions.count regions.list
 
 -- the regions read, or why the policy is refused
 unfoldable pub regions_result : Result Regions Refusal → Result (List Region) Refusal
-regions_result (Err r) = Err r
-regions_result (Ok regions) = Ok (listed regions)
+regions_result r = map_ok listed r
 
 -- region j, if it fits
 unfoldable pub region_read : List ℕ → Sizes → (j : ℕ) → Result Region Refusal

@@ -1,6 +1,6 @@
 -- The readers of instructions, one instruction at a time. Assumes nothing.
 use Rattle.std.specs.Prelude.{List, ℕ, ◌+◌, ◌*◌, get_or}
-use Rattle.model.specs.Result.{Result, Err, Ok, check, map_err, ◌>>=◌}
+use Rattle.model.specs.Result.{Result, Ok, check, map_err, ◌>>=◌, map_ok}
 use Rattle.model.specs.Word.{le32}
 use Rattle.model.specs.Instruction.{decode, target_inside}
 use Rattle.model.specs.Package.{immediate_start}
@@ -20,5 +20,4 @@ instruction_at bytes h index = do
 
 -- the answer for a code of which only the checks are wanted
 unfoldable pub code_checked : Result (List Instruction) Refusal → Result (Unit {0}) Refusal
-code_checked (Err x) = Err x
-code_checked (Ok code) = Ok tt
+code_checked r = map_ok (λ code. tt) r

@@ -1,14 +1,13 @@
 // The instructions of a package: checks 8 and 9.
-ghost use Rattle.std.specs.Prelude.{◌≡◌, ◌<◌, ◌≤◌, IfOk, All, List, length, take};
-ghost use Rattle.model.specs.Package.{most_instructions, read_code};
-ghost use Rattle.model.specs.declared.Instruction.{Instruction};
+ghost use Rattle.std.specs.Prelude.{◌≡◌, ◌<◌, IfOk, All, length};
+ghost use Rattle.model.specs.Result.{map_ok};
+ghost use Rattle.model.specs.Package.{read_code};
 ghost use Rattle.decoding.specs.Decoding.{Formed};
 ghost use Rattle.routine.specs.Code.{instruction_at, code_checked};
 
 use header::package::Package;
 use limits::MOST_INSTRUCTIONS;
 use model::{Instruction, Refusal};
-use std::marker::Model;
 
 // The instruction at an index, or what check 8 or 9 refuses there.
 pub fn instruction(routine: &Package, index: usize) -> Result<Instruction, Refusal>
@@ -38,40 +37,21 @@ pub fn check_code(routine: &Package) -> Result<(), Refusal>
     Ok(())
 }
 
-// The instructions of a package that passes checks 8 and 9: the first `size` of `lines`.
-#[derive(Drop)]
-pub struct Code {
-    size: usize,
-    lines: [Instruction; MOST_INSTRUCTIONS],
-}
+// What stands in a line that is not read: an instruction whose bytes are all 0.
+pub const BLANK: Instruction = Instruction::Set { d: 0, i: 0 };
 
-impl Model for Code {
-    ghost Value = { List Instruction };
-
-    ghost view = { λ code. take code.size code.lines };
-
-    ghost invariant = { λ code. (code.size ≤ most_instructions)
-        × All (Formed code.size) (take code.size code.lines) };
-}
-
-impl Code {
-    // The instructions; each is formed for a code of their number.
-    pub fn as_slice(&self) -> &[Instruction]
-        ensures same { result.now ≡ self.now }
-        ensures formed { All (Formed (length self.now)) self.now }
-    {
-        &self.lines[..self.size]
-    }
-}
-
-// The instructions of a package, or what check 8 or 9 refuses.
-pub fn read_code(routine: &Package) -> Result<Code, Refusal>
-    ensures { result ≡ read_code routine.now.bytes.now routine.now.header }
+// The instructions of a package, which then stand at the start of the lines, or what check 8 or 9 refuses. Each is formed for a code of their
+// number.
+pub fn read_code<'a>(
+    routine: &Package,
+    lines: &'a mut [Instruction; MOST_INSTRUCTIONS],
+) -> Result<&'a [Instruction], Refusal>
+    ensures is { map_ok (λ code. code.now) result ≡ read_code routine.now.bytes.now routine.now.header }
+    ensures formed { IfOk result (λ code. All (Formed (length code.now)) code.now) }
 {
     let size = routine.header.instructions;
-    let mut lines = [Instruction::Return; MOST_INSTRUCTIONS];
     for index in 0..size {
         lines[index] = instruction(routine, index)?;
     }
-    Ok(Code { size, lines })
+    Ok(&lines[..size])
 }

@@ -2,7 +2,7 @@
 use Rattle.std.specs.Prelude.{◌≡◌, List, ◌∷◌, [], ℕ, ◌+◌, ◌<◌, ◌≤◌, IfOk, MatchResult, Some, None}
 use Rattle.std.specs.Prelude.{Option as Maybe}
 use Rattle.std.proofs.Math.Option.{Option, none, some}
-use Rattle.model.specs.Result.{Result, Err, Ok}
+use Rattle.model.specs.Result.{Result, Err, Ok, map_ok}
 use Rattle.model.specs.Term.{Term}
 use Rattle.model.specs.Expression.{most_nodes, register_count}
 use Rattle.model.specs.Goals.{register_variables}
@@ -34,12 +34,10 @@ rule_answer us None = none
 rule_answer us (Some rule) = some (rule_in us rule)
 
 abbrev pub term_answer : List ℕ → Result Argument Refusal → Result (Term × ℕ) Refusal
-term_answer us (Err e) = Err e
-term_answer us (Ok x) = Ok (term_at us x.value, x.next)
+term_answer us r = map_ok (λ x. (term_at us x.value, x.next)) r
 
 abbrev pub opened_answer : List ℕ → Result Opened Refusal → Result (Ruled × ℕ) Refusal
-opened_answer us (Err e) = Err e
-opened_answer us (Ok o) = Ok (rule_in us o.rule, o.next)
+opened_answer us r = map_ok (λ o. (rule_in us o.rule, o.next)) r
 
 -- what stands after a rule byte makes the rule of the byte's row, if there is one
 abbrev pub ArgumentAnswer : (bytes us : List ℕ) (variables at : ℕ) → Option Format → Result Argument Refusal → Type 0

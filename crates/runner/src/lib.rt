@@ -4,7 +4,7 @@
 ghost use Rattle.std.specs.Prelude.{◌≡◌};
 ghost use Rattle.runner.specs.Checks.{refusal_outcome, outcome_of, Runs};
 
-use limits::REGISTERS;
+use limits::{MOST_INSTRUCTIONS, REGISTERS};
 use model::{Outcome, Refusal};
 use routine::instructions;
 
@@ -34,8 +34,8 @@ fn run_checked(
         return Err(Refusal::WrongStart);
     }
     let routine = header::read_package(bytes)?;
-    let read = instructions::read_code(&routine)?;
-    let code = read.as_slice();
+    let mut lines = [instructions::BLANK; MOST_INSTRUCTIONS];
+    let code = instructions::read_code(&routine, &mut lines)?;
     let regions = granted.regions.as_slice();
     Ok(runs::run_code(code, regions, registers, memory, budget))
 }
@@ -50,8 +50,5 @@ pub fn run(
 ) -> Outcome
     ensures { Runs policy.now bytes.now registers.old memory.old budget result registers.new memory.new }
 {
-    match run_checked(policy, bytes, registers, memory, budget) {
-        Ok(outcome) => outcome,
-        Err(refusal) => refused(refusal),
-    }
+    run_checked(policy, bytes, registers, memory, budget).unwrap_or_else(refused)
 }

@@ -27,11 +27,12 @@ use Rattle.annotations.specs.Annotations.{annotation_at_place, Placed, annotatio
 use Rattle.targets.proofs.Searches.{found_annotation, no_annotation}
 use Rattle.policy.specs.declared.Condition.{Condition}
 use Rattle.policy.specs.Conditions.{atoms_of, condition_at, atoms_in}
-use Rattle.policy.specs.Policy.{policy_of}
+use Rattle.policy.specs.declared.Policy.{Policy as CodePolicy}
+use Rattle.policy.specs.Policy.{policy_of, listed}
 use Rattle.claims.specs.Regions.{RegionList}
 use Rattle.setting.specs.declared.Setting.{Setting}
-use Rattle.setting.specs.Fixed.{Ends, AnnotationsFit}
-use Rattle.setting.specs.Setting.{regions_in, Stands}
+use Rattle.setting.specs.Fixed.{Ends, PolicyFits, AnnotationsFit}
+use Rattle.setting.specs.Setting.{TablesStand, Stands}
 use Rattle.expressions.proofs.ReadingLaws.{read_next}
 use Rattle.std.proofs.lemmas.List.{length-map, get_or-map}
 use Rattle.std.proofs.lemmas.List.Elements.{All-weaker}
@@ -81,18 +82,21 @@ ends_read : (conditions : List ℕ) (c : Condition) (next : ℕ) → Ends condit
 unfolding atoms_in atoms_of
 ends_read conditions c next e = rw (read_next (condition_at conditions c.atoms c.at) next e).1
 
-module _ (setting : Setting) where
-  -- the regions are few, and each ends below 2^32
-  pub region_list : RegionList (regions_in setting)
-  region_list = record {
-    few = omega (arith, setting.policy_fits.whole, setting.policy.regions.few);
-    small = All-weaker (λ (r : Region). r.base + r.size ≤ setting.policy.memory) (λ (r : Region). r.base + r.size < 2 ^ 32) (λ r p. omega (arith, p, setting.policy_fits.small_memory)) (regions_in setting) setting.policy_fits.fits;
-  }
+-- the regions of a policy that fits are few, and each ends below 2^32
+pub region_list : {conditions : List ℕ} {p : CodePolicy} → PolicyFits conditions p → RegionList (listed p.regions)
+region_list {p = p} f = record {
+  few = omega (arith, f.whole, p.regions.few);
+  small = All-weaker (λ (r : Region). r.base + r.size ≤ p.memory) (λ (r : Region). r.base + r.size < 2 ^ 32) (λ r e. omega (arith, e, f.small_memory)) (listed p.regions) f.fits;
+}
 
+module _ (setting : Setting) where
   module _ {policy : Policy} {routine : Routine} (stands : Stands setting policy routine) where
-    pub regions_stand : policy.regions ≡ regions_in setting
+    pub regions_stand : policy.regions ≡ setting.tables.regions.now
     unfolding policy_of
-    regions_stand = ap (λ p. p.regions) stands.policy_is
+    regions_stand = ap (λ p. p.regions) stands.policy_is ∙ sym setting.same_regions
+
+    pub tables_stand : TablesStand setting.tables policy routine
+    tables_stand = record { regions_are = regions_stand; annotations_are = stands.annotations_are }
 
     pub limit_stands : policy.limit ≡ setting.policy.limit
     unfolding policy_of
@@ -106,8 +110,8 @@ module _ (setting : Setting) where
     unfolding policy_of
     postcondition_stands = ends_read _ _ _ (setting.policy_fits.postcondition_ends) ∙ ap (λ p. Ok (p.postcondition, length setting.conditions.now)) (sym stands.policy_is)
 
-    pub code_long : length routine.code ≡ setting.routine.header.instructions
-    code_long = code_length setting.routine.bytes.now setting.routine.header stands.code_read
+    pub code_long : length routine.code ≡ setting.tables.routine.header.instructions
+    code_long = code_length setting.tables.routine.bytes.now setting.tables.routine.header stands.code_read
 
-    pub instruction_stands : (k : ℕ) → k < setting.routine.header.instructions → instruction_at setting.routine.bytes.now setting.routine.header k ≡ Ok (get_or routine.code k Return)
-    instruction_stands k h = code_at setting.routine.bytes.now setting.routine.header stands.code_read k Return h
+    pub instruction_stands : (k : ℕ) → k < setting.tables.routine.header.instructions → instruction_at setting.tables.routine.bytes.now setting.tables.routine.header k ≡ Ok (get_or routine.code k Return)
+    instruction_stands k h = code_at setting.tables.routine.bytes.now setting.tables.routine.header stands.code_read k Return h

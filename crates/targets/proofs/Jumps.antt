@@ -7,7 +7,7 @@ use Prim.Native.Nat.{ℕ, ◌+◌, ◌≤◌, ◌<◌}
 use lib.ListN.{length, get_or, drop, drop_of_length-le}
 use lib.Dec.{eqb}
 use lib.Seq.{drop-cons}
-use Rattle.std.specs.Prelude.{Option, None, Some, is_some}
+use Rattle.std.specs.Prelude.{Option, None, Some, is_some, IsTrue, MatchOption}
 use Rattle.std.specs.List.{position_from}
 use Rattle.model.specs.Result.{Result, Err, Ok, ◌>>=◌, check}
 use Rattle.model.specs.Term.{constant}
@@ -29,7 +29,7 @@ use Rattle.targets.proofs.Searches.{found_annotation, no_annotation}
 
 -- ---- one instruction's target
 module _ (list : List Annotated) (x : Instruction) where
-  pub no_jump : None ≡ target_of x → TargetListed list x true
+  no_jump : None ≡ target_of x → TargetListed list x true
   unfolding target_annotated
   no_jump e = record { is = λ annotations l. rw (← e, target_annotated) }
 
@@ -39,8 +39,10 @@ module _ (list : List Annotated) (x : Instruction) where
     jump (Some k) ef = record { is = λ annotations l. rw (← e, (found_annotation i annotations list l (Some k) ef refl).is (record { index = 0; credit = constant 0; atoms = [] }), target_annotated) }
     jump None ef = record { is = λ annotations l. rw (← e, no_annotation i annotations list l None ef refl, target_annotated) }
 
-    pub jumps : (f : Option ℕ) → f ≡ position_from (λ (a : Annotated). eqb a.index i) 0 list → (r : Bool) → r ≡ is_some f → TargetListed list x r
-    jumps f ef r e = rw e (jump f ef)
+  -- its jump, if it is one, is listed
+  pub jumps_listed : (P : ℕ → Type 0) (t : Option ℕ) (r : Bool) → t ≡ target_of x → MatchOption t (IsTrue r) P → ((i : ℕ) → P i → r ≡ is_some (position_from (λ (a : Annotated). eqb a.index i) 0 list)) → TargetListed list x r
+  jumps_listed P None r e h says = rw h (no_jump e)
+  jumps_listed P (Some i) r e h says = rw (says i h) (jump i e (position_from (λ (a : Annotated). eqb a.index i) 0 list) refl)
 
 -- ---- the instruction at an index
 module _ (bytes : List ℕ) (h : Header) (list : List Annotated) (index : ℕ) (l : index < h.instructions) where

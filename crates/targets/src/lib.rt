@@ -15,10 +15,10 @@ use routine::instructions;
 fn target_listed(annotations: &[Annotated], instruction: Instruction) -> bool
     ensures { TargetListed annotations.now instruction result }
 {
-    match decoding::target_of(instruction) {
-        Some(target) => search::position(annotations, target as usize).is_some(),
-        None => true,
-    }
+    decoding::target_of(instruction).is_none_or(|target| search::position(
+        annotations,
+        target as usize,
+    ).is_some())
 }
 
 // Check 12 of the instruction at an index; its code has been checked.

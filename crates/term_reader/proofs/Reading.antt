@@ -15,7 +15,7 @@ use Rattle.model.specs.Expression.{Form, two_expressions, count_and_expression, 
 use Rattle.nodes.specs.Table.{operation_of}
 use Rattle.nodes.specs.declared.Operation.{Operation}
 use Rattle.nodes.specs.declared.Operation.TheVariants.{Sum, Difference, Mask}
-use Rattle.leaf_reader.specs.Leaves.{over, mapped, nodes_over}
+use Rattle.leaf_reader.specs.Leaves.{over, nodes_over}
 use Rattle.term_reader.specs.Reader.{expression_over}
 
 -- ---- a tag of no form
@@ -32,28 +32,28 @@ module _ (bytes : List ℕ) (end limit : ℕ) where
   -- ---- a shift whose count cannot be read
   module _ (σ : ℕ → Term) (operand : (left p : ℕ) → Nodes) (left at : ℕ) where
     pub shift_missing : end < at + 2 → Err Missing ≡ nodes_over σ (node_of bytes end limit operand (count_and_expression shift) left at)
-    unfolding node_of byte_at ◌>>=◌ check mapped
+    unfolding node_of byte_at ◌>>=◌ check
     shift_missing h = rw (lt-leb (at + 1 + 1) end (omega arith))
 
     pub shift_fault : at + 2 ≤ end → most_count < get_or bytes (at + 1) 0 → Err (Fault (at + 1)) ≡ nodes_over σ (node_of bytes end limit operand (count_and_expression shift) left at)
-    unfolding node_of byte_at ◌>>=◌ check mapped
+    unfolding node_of byte_at ◌>>=◌ check
     shift_fault h k = rw (le-leb (at + 1 + 1) end (omega arith), lt-leb (get_or bytes (at + 1) 0) most_count k)
 
   -- ---- the nodes at a position
   module _ (left at : ℕ) where
     module _ (σ : ℕ → Term) where
       pub nodes_missing : end ≤ at → (depth : ℕ) → Err Missing ≡ nodes_over σ (nodes_at bytes end limit depth left at)
-      unfolding nodes_at byte_at ◌>>=◌ check mapped
+      unfolding nodes_at byte_at ◌>>=◌ check
       nodes_missing h zero = rw (lt-leb (at + 1) end (omega arith))
       nodes_missing h (suc depth) = rw (lt-leb (at + 1) end (omega arith))
 
       pub nodes_spent : at < end → left ≡ 0 → (depth : ℕ) → Err (Fault at) ≡ nodes_over σ (nodes_at bytes end limit depth left at)
-      unfolding nodes_at byte_at ◌>>=◌ check mapped
+      unfolding nodes_at byte_at ◌>>=◌ check
       nodes_spent h e zero = rw (le-leb (at + 1) end (omega arith))
       nodes_spent h e (suc depth) = rw (le-leb (at + 1) end (omega arith), le-ltb 0 left (omega arith))
 
       pub nodes_unknown : at < end → 0 < left → 6 ≤ get_or bytes at 0 → (depth : ℕ) → Err (Fault at) ≡ nodes_over σ (nodes_at bytes end limit depth left at)
-      unfolding nodes_at byte_at ◌>>=◌ check found mapped
+      unfolding nodes_at byte_at ◌>>=◌ check found
       nodes_unknown h s u zero = rw (le-leb (at + 1) end (omega arith))
       nodes_unknown h s u (suc depth) = rw (le-leb (at + 1) end (omega arith), lt-ltb 0 left s, form_unknown (get_or bytes at 0) u)
 
@@ -83,7 +83,7 @@ operation_keeps Mask σ s t = refl
 
 module _ (σ : ℕ → Term) where
   applied_over : (f g : Term → Term) → ((t : Term) → over σ (f t) ≡ g (over σ t)) → (x : Nodes) → nodes_over σ (applied f x) ≡ applied g (nodes_over σ x)
-  unfolding ◌>>=◌ mapped
+  unfolding ◌>>=◌
   applied_over f g k (Err e) = refl
   applied_over f g k (Ok z) = ap (λ t. Ok (t, z.1, z.2)) (k z.0)
 
@@ -92,7 +92,7 @@ module _ (σ : ℕ → Term) where
   shift_over count x = applied_over (shift count) (shift count) (λ t. refl) x
 
   pub pair_over : (operation : Term → Term → Term) → Keeps operation σ → (x : Nodes) (y : (left p : ℕ) → Nodes) → nodes_over σ (pair_of operation x y) ≡ pair_of operation (nodes_over σ x) (λ l q. nodes_over σ (y l q))
-  unfolding ◌>>=◌ mapped
+  unfolding ◌>>=◌
   pair_over operation k (Err e) y = refl
   pair_over operation k (Ok z) y = applied_over (operation z.0) (operation (over σ z.0)) (k z.0) (y z.2 z.1)
 
@@ -110,6 +110,6 @@ abbrev pub without_left : Nodes → Result (Term × ℕ) ReadError
 without_left x = x >>= (λ z. Ok (z.0, z.1))
 
 pub without_over : (σ : ℕ → Term) (x : Nodes) → without_left (nodes_over σ x) ≡ expression_over σ (without_left x)
-unfolding ◌>>=◌ mapped
+unfolding ◌>>=◌
 without_over σ (Err e) = refl
 without_over σ (Ok z) = refl

@@ -8,7 +8,7 @@ use native.Mathlib.Decide.{dec_lt}
 use lib.Dec.{leb, ltb}
 use lib.ListN.{get_or, get_elem?}
 use borrow.Author.Tests.{ltb-true}
-use Rattle.model.specs.Result.{Result, Err, Ok, ◌>>=◌, check, found}
+use Rattle.model.specs.Result.{Result, Err, Ok, ◌>>=◌, check, found, map_ok}
 use Rattle.model.specs.Term.{Term, constant, variable, sum, difference, mask, shift, substitute}
 use Rattle.model.specs.Field.{byte_at, half_at, word_at}
 use Rattle.model.specs.declared.ReadError.{ReadError}
@@ -19,7 +19,7 @@ use Rattle.workspace.specs.Layout.{table_base, Same}
 use Rattle.nodes.specs.Table.{operation_of, place}
 use Rattle.nodes.specs.declared.Operation.{Operation}
 use Rattle.nodes.specs.declared.Operation.TheVariants.{Sum, Difference, Mask}
-use Rattle.leaf_reader.specs.Leaves.{over, mapped, nodes_over, variable_term}
+use Rattle.leaf_reader.specs.Leaves.{over, nodes_over, variable_term}
 use Rattle.leaf_reader.proofs.Leaves.{variable_register, variable_new}
 use Rattle.term_reader.specs.Reader.{expression_over, RegisterTerms}
 use Rattle.workspace.proofs.Frames.{same_within}
@@ -47,13 +47,13 @@ over_registers terms (shift count s) = ap (shift count) (over_registers terms s)
 
 -- ---- what is read has variables below the limit, so terms that agree there give the same
 module _ {E B C : Type 0} (f g : B → C) where
-  pub bind_agree : {A : Type 0} (x : Result A E) (k : A → Result B E) → ((a : A) → mapped f (k a) ≡ mapped g (k a)) → mapped f (x >>= k) ≡ mapped g (x >>= k)
-  unfolding ◌>>=◌ mapped
+  pub bind_agree : {A : Type 0} (x : Result A E) (k : A → Result B E) → ((a : A) → map_ok f (k a) ≡ map_ok g (k a)) → map_ok f (x >>= k) ≡ map_ok g (x >>= k)
+  unfolding ◌>>=◌
   bind_agree (Err e) k h = refl
   bind_agree (Ok a) k h = h a
 
-  check_agree : (b : Bool) (e : E) (k : Unit {0} → Result B E) → (b ≡ true → mapped f (k tt) ≡ mapped g (k tt)) → mapped f (check b e >>= k) ≡ mapped g (check b e >>= k)
-  unfolding ◌>>=◌ mapped check
+  check_agree : (b : Bool) (e : E) (k : Unit {0} → Result B E) → (b ≡ true → map_ok f (k tt) ≡ map_ok g (k tt)) → map_ok f (check b e >>= k) ≡ map_ok g (check b e >>= k)
+  unfolding ◌>>=◌ check
   check_agree true e k h = h refl
   check_agree false e k h = refl
 
@@ -71,7 +71,7 @@ module _ (bytes : List ℕ) (end limit : ℕ) (σ τ : ℕ → Term) (agree : (v
         shift_over σ count (operand (left - 1) (p + 2)) ∙ ap (applied (shift count)) (same (left - 1) (p + 2)) ∙ sym (shift_over τ count (operand (left - 1) (p + 2)))
 
     node_agree : (tag : ℕ) → nodes_over σ (found (get_elem? forms tag) (Fault p) >>= (λ form. node_of bytes end limit operand form left p)) ≡ nodes_over τ (found (get_elem? forms tag) (Fault p) >>= (λ form. node_of bytes end limit operand form left p))
-    unfolding node_of ◌>>=◌ found mapped over
+    unfolding node_of ◌>>=◌ found over
     node_agree zero = bind_agree _ _ (word_at bytes end (p + 1)) _ (λ c. refl)
     node_agree (suc zero) = bind_agree _ _ (half_at bytes end (p + 1)) _ (λ v. check_agree _ _ (ltb v limit) (Fault (p + 1)) _ (λ e. ap (λ t. Ok (t, p + 3, left - 1)) (agree v (ltb-true v limit e))))
     node_agree (suc (suc zero)) = pair_agree Sum
@@ -82,7 +82,7 @@ module _ (bytes : List ℕ) (end limit : ℕ) (σ τ : ℕ → Term) (agree : (v
     node_agree (suc (suc (suc (suc (suc (suc tag)))))) = refl
 
   nodes_agree : (depth left p : ℕ) → nodes_over σ (nodes_at bytes end limit depth left p) ≡ nodes_over τ (nodes_at bytes end limit depth left p)
-  unfolding nodes_at ◌>>=◌ mapped
+  unfolding nodes_at ◌>>=◌
   nodes_agree zero left p = bind_agree _ _ (byte_at bytes end p) _ (λ tag. refl)
   nodes_agree (suc depth) left p =
       bind_agree _ _ (byte_at bytes end p) _ (λ tag. bind_agree _ _ (check (ltb 0 left) (Fault p)) _ (λ u. node_agree (λ l q. nodes_at bytes end limit depth l q) (λ l q. nodes_agree depth l q) left p tag))
@@ -97,10 +97,10 @@ register_terms_same {registers = registers} top r s h = record { is = λ v l. te
 
 -- what is read has each variable replaced by the term of its register
 module _ {ws registers : List ℕ} {terms : List Term} (h : RegisterTerms ws registers terms) (bytes : List ℕ) (end p : ℕ) where
-  pub expression_substituted : expression_over (variable_term ws registers) (expression_at bytes end register_count p) ≡ mapped (λ y. (substitute terms y.0, y.1)) (expression_at bytes end register_count p)
+  pub expression_substituted : expression_over (variable_term ws registers) (expression_at bytes end register_count p) ≡ map_ok (λ y. (substitute terms y.0, y.1)) (expression_at bytes end register_count p)
   expression_substituted =
       expression_agree bytes end register_count (variable_term ws registers) (λ v. get_or terms v (constant 0)) (λ v l. sym (variable_register ws registers v l) ∙ h.is v l) p
-      ∙ ap (λ f. mapped f (expression_at bytes end register_count p)) (fun_ext (λ y. ap (λ t. (t, y.1)) (over_registers terms y.0)))
+      ∙ ap (λ f. map_ok f (expression_at bytes end register_count p)) (fun_ext (λ y. ap (λ t. (t, y.1)) (over_registers terms y.0)))
 
 -- the registers are the variables themselves: what is read is unchanged, whatever the limit
 abbrev variables_from : (n v : ℕ) → List Term
@@ -124,6 +124,5 @@ module _ {ws registers : List ℕ} (h : RegisterTerms ws registers register_vari
       at v (no l) = sym (variable_new ws registers v (omega arith))
 
   pub expression_self : (x : Result (Term × ℕ) ReadError) → expression_over (variable_term ws registers) x ≡ x
-  unfolding mapped
   expression_self (Err e) = refl
   expression_self (Ok z) = rw variables_self (ap (λ t. Ok (t, z.1)) (over_variable z.0))

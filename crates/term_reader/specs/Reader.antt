@@ -1,17 +1,17 @@
 -- What the reader that builds expressions in the term table owes. Assumes nothing.
 use Rattle.std.specs.Prelude.{◌≡◌, List, ℕ, ◌<◌, get_or}
-use Rattle.model.specs.Result.{Result, Err, Ok}
+use Rattle.model.specs.Result.{Result, map_ok}
 use Rattle.model.specs.Term.{Term, constant}
 use Rattle.model.specs.declared.ReadError.{ReadError}
 use Rattle.model.specs.Expression.{Nodes, nodes_at, expression_at, register_count}
 use Rattle.nodes.specs.Table.{term_at}
-use Rattle.leaf_reader.specs.Leaves.{over, mapped, nodes_over, variable_term}
+use Rattle.leaf_reader.specs.Leaves.{over, nodes_over, variable_term}
 use Rattle.leaf_reader.specs.declared.Parsed.{Parsed}
 use Rattle.leaf_reader.specs.declared.sources.Source.{Source}
 
 -- ---- an expression over other terms
 abbrev pub expression_over : (σ : ℕ → Term) → Result (Term × ℕ) ReadError → Result (Term × ℕ) ReadError
-expression_over σ x = mapped (λ y. (over σ y.0, y.1)) x
+expression_over σ x = map_ok (λ y. (over σ y.0, y.1)) x
 
 -- the registers' nodes have these terms
 pub record RegisterTerms (ws registers : List ℕ) (terms : List Term) : Type 0 where
@@ -27,5 +27,4 @@ expression_in ws source at = expression_over (variable_term ws source.registers)
 
 -- ---- what an answer says in the words us
 abbrev pub expression_answer : List ℕ → Result Parsed ReadError → Result (Term × ℕ) ReadError
-expression_answer us (Err e) = Err e
-expression_answer us (Ok x) = Ok (term_at us x.node, x.next)
+expression_answer us r = map_ok (λ x. (term_at us x.node, x.next)) r

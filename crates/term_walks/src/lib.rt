@@ -33,15 +33,6 @@ pub fn equal(ws: &[u32], i: usize, j: usize) -> bool
     }
 }
 
-// Whether nodes i and j have the same term.
-pub fn same(ws: &[u32], i: usize, j: usize) -> bool
-    requires first_formed { Formed ws.now (suc i) }
-    requires second_formed { Formed ws.now (suc j) }
-    ensures { result ≡ eq_term (term_at ws.now i) (term_at ws.now j) }
-{
-    equal(ws, i, j)
-}
-
 // The value of node i's term, every variable being 0: at once where it is kept.
 fn reduced(ws: &[u32], i: usize) -> u32
     requires { Formed ws.now (suc i) }

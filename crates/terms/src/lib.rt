@@ -9,7 +9,7 @@ ghost use Rattle.workspace.specs.Layout.{most_variables, hint_base, stored};
 ghost use Rattle.nodes.specs.Table.{low as low_of, parts_at, value_at, marks_at, operation_of, term_at, term_of, pair_value, facts_from, holds_of, value_of, Formed, Space, Put, Fits, Twinned};
 
 use limits::MOST_TERM_NODES;
-use nodes::Operation;
+use nodes::{Flag, Operation};
 use workspace::{HINT_COUNT, HINTS, TABLE};
 
 // Sizes are kept up to this, one more than the nodes of a register's term.
@@ -147,8 +147,10 @@ pub fn put_pair(ws: &mut [u32], top: usize, operation: Operation, left: usize, r
     let a = nodes::marks(ws, left);
     let b = nodes::marks(ws, right);
     let parts = nodes::high(a) + 65536 * nodes::high(b);
-    let closed = nodes::is_closed(a) & nodes::is_closed(b);
-    let plain = operation.is_linear() & nodes::is_plain(a) & nodes::is_plain(b);
+    let closed = nodes::flagged(a, Flag::Closed) & nodes::flagged(b, Flag::Closed);
+    let plain = operation.is_linear()
+        & nodes::flagged(a, Flag::Plain)
+        & nodes::flagged(b, Flag::Plain);
     let size = nodes::size(a) + nodes::size(b) + 1;
     let value = computed(ws, operation, left, right, closed & plain);
     put(
@@ -170,6 +172,11 @@ pub fn put_shift(ws: &mut [u32], top: usize, count: u32, part: usize)
 {
     let a = nodes::marks(ws, part);
     let parts = nodes::high(a) + 65536 * (count as usize);
-    let facts = facts(SHIFT, nodes::is_closed(a), false, nodes::size(a) + 1);
+    let facts = facts(
+        SHIFT,
+        nodes::flagged(a, Flag::Closed),
+        false,
+        nodes::size(a) + 1,
+    );
     put(ws, top, parts as u32, 0, facts);
 }

@@ -75,7 +75,7 @@ pub fn reckon_by_table(ws: &mut [u32], i: usize, j: usize, nodes: usize)
     ensures { Spread ws.old ws.new nodes (term_at ws.old i) (term_at ws.old j) }
 {
     give(ws, i, 1);
-    give(ws, j, 4294967295);
+    give(ws, j, u32::MAX);
     spread(ws, nodes);
 }
 

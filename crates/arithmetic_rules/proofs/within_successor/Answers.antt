@@ -1,20 +1,20 @@
 use Rattle.model.specs.Rule.{premises}
-use Rattle.model_laws.proofs.Steps.{goes_on, stops}
+use Rattle.model_laws.proofs.Steps.{goes_on}
 use native.Mathlib.Omega.{arith}
-use Rattle.claims.proofs.PlanLaws.{fits_one, kept_term, misfits, put_asks_parts, stays, two_put}
+use Rattle.claims.proofs.PlanLaws.{fits, kept_term, misfits_at_once, two_put}
 use Rattle.arithmetic_rules.proofs.within_successor.Goals as goal
 
 pub returns-in_err-a : goal.returns-in_err-a
 unfolding premises
-returns-in_err-a c = misfits (stays c.requires.formed) c.from_residual.ensures.0 (λ policy g _. stops _ (c.in_err-a.ensures.is _))
+returns-in_err-a c = misfits_at_once _ _ c.requires.formed c.from_residual.ensures.0 _ (c.in_err-a.ensures.is _)
 
-pub put_pair-requires : goal.put_pair-requires
-put_pair-requires c = let h = put_asks_parts c.requires.space c.put_constant.ensures c.put_constant.auto.ws _ _ (omega (arith, (c.in_ok-a.ensures.below _ c.requires.claim_below).1)) (omega arith) in record { formed = h.0; space = h.1.0; parts_below = h.1.1 }
+pub put_pair-requires-clause-parts_below : goal.put_pair-requires-clause-parts_below
+put_pair-requires-clause-parts_below c = let j = c.in_ok-a.ensures.below _ c.requires.claim_below in omega arith
 
 pub returns : goal.returns
 unfolding premises
 returns c =
     let j = c.in_ok-a.ensures.below _ c.requires.claim_below in
     let m = two_put c.put_constant.ensures c.put_pair.ensures in
-    fits_one m c.new.ensures (omega arith) c.one.ensures
+    fits m (rw c.new.ensures at c.ask.ensures) (omega arith)
     (λ policy g _. goes_on _ (c.in_ok-a.ensures.is _) (rw (kept_term m.kept j.0, c.put_pair.ensures.is, c.put_constant.ensures.is, kept_term c.put_constant.ensures.kept j.1)))

@@ -9,7 +9,7 @@ pub put_constant-requires-clause-formed : goal.put_constant-requires-clause-form
 put_constant-requires-clause-formed c = (returning_asks c.requires.going c.requires.credit_in c.in_ok-after.ensures c.atoms.auto.ws).0.inside.prepared.formed
 
 pub goal-requires : goal.goal-requires
-goal-requires c = let h = let g = returning_asks c.requires.going c.requires.credit_in c.in_ok-after.ensures c.atoms.auto.ws in covers_asks g.0 g.1 c.put_constant.ensures c.put_constant.auto.ws c.raised-inner.ensures in record { going = h.0; claim_in = h.1 }
+goal-requires c = let h = let g = returning_asks c.requires.going c.requires.credit_in c.in_ok-after.ensures c.atoms.auto.ws in covers_asks g.0 g.1 c.put_constant.ensures c.put_constant.auto.ws c.raised-inner.ensures in record { going = h.0; claim_in = rw c.new.ensures h.1 }
 
 pub returns : goal.returns
-returns c = let g = returning_asks c.requires.going c.requires.credit_in c.in_ok-after.ensures c.atoms.auto.ws in returning_judged c.requires.going c.requires.credit_in c.in_ok-after.ensures (covers g.0 g.1 c.put_constant.ensures c.put_constant.auto.ws c.raised-inner.ensures c.goal.ensures)
+returns c = let g = returning_asks c.requires.going c.requires.credit_in c.in_ok-after.ensures c.atoms.auto.ws in returning_judged c.requires.going c.requires.credit_in c.in_ok-after.ensures (covers g.0 g.1 c.put_constant.ensures c.put_constant.auto.ws c.raised-inner.ensures (rw c.new.ensures at c.goal.ensures))

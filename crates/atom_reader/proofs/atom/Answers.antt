@@ -3,7 +3,7 @@ use Rattle.model.specs.declared.ReadError.TheVariants.{Fault}
 use Rattle.std.proofs.lemmas.Result.{err_from_is_err_and}
 use Rattle.term_reader.proofs.Building.{variable_same, node_same, kept_before}
 use Rattle.nodes.proofs.Table.{formed_less}
-use Rattle.atom_reader.proofs.Reading.{no_kind, kind_found, atom_missing, atom_unknown, left_refused, right_refused, atom_read}
+use Rattle.atom_reader.proofs.Reading.{no_kind, kind_found, atom_missing, atom_unknown, left_refused, right_refused, sides_read}
 use Rattle.atom_reader.proofs.atom.Goals as goal
 
 pub returns-then-source-at-clause-answer : goal.returns-then-source-at-clause-answer
@@ -31,7 +31,8 @@ returns-clause-answer c =
     let first = c.in_ok-first.ensures.grown in
     let second = c.in_ok-second.ensures.grown in
     let same = variable_same _ _ c.requires.held first.kept in
-    atom_read _ _ _ _ _ (omega arith) (kind_found _ (λ e. e) c.try_from.ensures c.in_ok-kind.ensures.cases) c.in_ok-first.ensures.answer same c.in_ok-second.ensures.answer (node_same second.kept first.found.node_in_table)
+    rw c.new.ensures
+    (sides_read _ _ _ _ _ (omega arith) (kind_found _ (λ e. e) c.try_from.ensures c.in_ok-kind.ensures.cases) c.in_ok-first.ensures.answer same c.in_ok-second.ensures.answer (node_same second.kept first.found.node_in_table))
 
 pub returns-clause-grown : goal.returns-clause-grown
 returns-clause-grown c =
@@ -42,8 +43,7 @@ returns-clause-grown c =
       formed = formed_less _ first.found.grows second.formed;
       found = record {
         formed = second.found.formed;
-        left_in_table = omega (arith, first.found.node_in_table, second.found.grows);
-        right_in_table = second.found.node_in_table;
+        in_table = rw c.new.ensures (omega (arith, first.found.node_in_table, second.found.grows), second.found.node_in_table);
         next_in_bounds = second.found.next_in_bounds;
         grows = omega (arith, first.found.grows, second.found.grows);
         few = omega (arith, first.found.few, second.found.few);

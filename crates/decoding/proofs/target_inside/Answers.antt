@@ -1,10 +1,8 @@
+use native.Mathlib.Omega.{arith}
+use Rattle.std.proofs.lemmas.Grind.{common_steps}
 use Rattle.model.specs.Instruction.{target_inside}
 use Rattle.decoding.proofs.target_inside.Goals as goal
 
-pub returns-in-Some : goal.returns-in-Some
+pub returns : goal.returns
 unfolding target_inside
-returns-in-Some c = rw (← c.in-Some.ensures, target_inside)
-
-pub returns-in-None : goal.returns-in-None
-unfolding target_inside
-returns-in-None c = rw (← c.in-None.ensures, target_inside)
+returns c = rw (← c.target_of.ensures, target_inside) (grind (arith, common_steps))

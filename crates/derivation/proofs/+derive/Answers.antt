@@ -8,27 +8,27 @@ pub returns-then-levels-eq0 : goal.returns-then-levels-eq0
 returns-then-levels-eq0 t c = too_deep c.requires (omega arith)
 
 pub apply-requires : goal.apply-requires
-apply-requires t c = derivable_one c.requires (omega arith)
+apply-requires t c = rw c.new-plan.ensures.top_is (derivable_one c.requires (omega arith))
 
-pub returns-in_err-plan : goal.returns-in_err-plan
-returns-in_err-plan t c =
+pub returns-in_err-next : goal.returns-in_err-next
+returns-in_err-next t c =
     let p = err_from_is_err_and c.from_residual.result c.from_residual.ensures.1 in
-    rw (p.1, p.2) (rule_refused c.requires (omega arith) c.in_err-plan.ensures)
+    rw (p.1, p.2) (rule_refused c.requires (omega arith) (rw c.new-plan.ensures.top_is at c.in_err-next.ensures))
 
 pub loop-premise-init : goal.loop-premise-init
-loop-premise-init t c = rule_applied c.requires (omega arith) c.in_ok-plan.ensures c.apply.auto.ws c.premises-premise-items.ensures
+loop-premise-init t c = rule_applied c.requires (omega arith) (rw c.new-plan.ensures.top_is at c.in_ok-next.ensures) c.apply.auto.ws c.premises-premise-items.ensures
 
 pub derive-requires : goal.derive-requires
-derive-requires t c = (omega (arith, c.decreases), premise_asks c.loop-premise.invariant c.loop-premise-test.true _ c.claim-due.ensures)
+derive-requires t c = (omega (arith, c.decreases), premise_asks c.loop-premise.invariant c.loop-premise-test.true _)
 
 pub returns-in_err-reached : goal.returns-in_err-reached
 returns-in_err-reached t c =
     let p = err_from_is_err_and c.from_residual-in_err-reached.result c.from_residual-in_err-reached.ensures.1 in
     rw (p.1, p.2)
-    (premise_refused c.requires (omega arith) c.in_ok-plan.ensures c.premises-premise-items.ensures refl c.loop-premise.invariant c.loop-premise-test.true _ c.claim-due.ensures c.in_err-reached.ensures)
+    (premise_refused c.requires (omega arith) (rw c.new-plan.ensures.top_is at c.in_ok-next.ensures) c.premises-premise-items.ensures refl c.loop-premise.invariant c.loop-premise-test.true _ c.in_err-reached.ensures)
 
 pub loop-premise-preserved : goal.loop-premise-preserved
-loop-premise-preserved t c = premise_derived c.loop-premise.invariant c.loop-premise-test.true _ c.claim-due.ensures c.in_ok-reached.ensures c.derive.auto.ws
+loop-premise-preserved t c = premise_derived c.loop-premise.invariant c.loop-premise-test.true _ c.in_ok-reached.ensures c.derive.auto.ws
 
 pub returns : goal.returns
-returns t c = all_derived c.requires (omega arith) c.in_ok-plan.ensures c.premises-premise-items.ensures refl c.loop-premise.invariant c.loop-premise-test.false
+returns t c = all_derived c.requires (omega arith) (rw c.new-plan.ensures.top_is at c.in_ok-next.ensures) c.premises-premise-items.ensures refl c.loop-premise.invariant c.loop-premise-test.false

@@ -1,3 +1,5 @@
+use Rattle.std.proofs.Common.{ap}
+use Rattle.claims.specs.Plan.{filled}
 use Rattle.std.proofs.lemmas.Result.{err_from_is_err_and}
 use Rattle.derivation.proofs.ApplyLaws.{applies_fits, applies_refused, applies_unfit, opening_of, plannable}
 use Rattle.derivation.proofs.apply.Goals as goal
@@ -14,7 +16,7 @@ pub planned-requires : goal.planned-requires
 planned-requires c = plannable c.requires _ _ c.in_ok-opened.ensures.answer c.in_ok-opened.ensures.grown c.read_rule.auto.ws
 
 pub returns-in_default : goal.returns-in_default
-returns-in_default c = applies_unfit c.requires _ _ c.in_ok-opened.ensures.answer c.in_ok-opened.ensures.grown c.planned.ensures c.in_default.is
+returns-in_default c = applies_unfit c.requires _ _ c.in_ok-opened.ensures.answer c.in_ok-opened.ensures.grown c.planned.ensures (ap (λ r. filled r c.planned.new.plan) c.in_default.is)
 
 pub returns : goal.returns
 returns c = applies_fits c.requires _ _ c.in_ok-opened.ensures.answer c.in_ok-opened.ensures.grown c.in-Ok.ensures

@@ -1,14 +1,11 @@
+use Rattle.std.proofs.Common.{rules}
+use Rattle.model.specs.Policy.{policy_refusal}
 use Rattle.policy.proofs.ConditionsLaws as laws
 use Rattle.policy.proofs.read_condition.Goals as goal
 
-pub returns-in-Ok-clause-end : goal.returns-in-Ok-clause-end
-returns-in-Ok-clause-end c = laws.condition_ends _ _ _ c.in-Ok.ensures.ends
+pub returns-clause-end : goal.returns-clause-end
+unfolding policy_refusal
+returns-clause-end c = laws.condition_read _ _ (λ e x p. search rules) _ _ c.atoms.ensures.ends c.map_err.ensures.cases
 
-pub returns-in-Ok-clause-stands : goal.returns-in-Ok-clause-stands
-returns-in-Ok-clause-stands c = laws.condition_stands _ _ _ c.in-Ok.ensures.ends c.requires c.in-Ok.ensures.inside
-
-pub returns-in-Err-Missing-clause-end : goal.returns-in-Err-Missing-clause-end
-returns-in-Err-Missing-clause-end c = laws.condition_missing _ _ _ c.in-Err-Missing.field-0-is c.in-Err-Missing.ensures.ends
-
-pub returns-in-Err-Fault-clause-end : goal.returns-in-Err-Fault-clause-end
-returns-in-Err-Fault-clause-end c = laws.condition_fault _ _ _ _ c.in-Err-Fault.field-0-is c.in-Err-Fault.ensures.ends
+pub returns-clause-stands : goal.returns-clause-stands
+returns-clause-stands c = laws.condition_read_whole _ _ _ _ _ c.atoms.ensures.ends c.map_err.ensures.cases c.requires c.atoms.ensures.inside

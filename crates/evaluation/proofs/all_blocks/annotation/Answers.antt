@@ -2,8 +2,8 @@ use native.Mathlib.Omega.{arith}
 use Rattle.evaluation.proofs.BlockLaws.{note_asks, index_below, note_room, note_left, note_walks}
 use Rattle.evaluation.proofs.all_blocks.annotation.Goals as goal
 
-pub annotation_block-block-requires-clause-at_in_bounds : goal.annotation_block-block-requires-clause-at_in_bounds
-annotation_block-block-requires-clause-at_in_bounds c = (note_asks c.requires.noted).0
+pub annotation_block-block-requires-clause-end_in_bounds : goal.annotation_block-block-requires-clause-end_in_bounds
+annotation_block-block-requires-clause-end_in_bounds c = rw c.proof_start-end.ensures (omega (arith, c.args.setting.now.tables.routine.fits.whole), (note_asks c.requires.noted).0)
 
 pub annotation_block-block-requires-clause-few_atoms : goal.annotation_block-block-requires-clause-few_atoms
 annotation_block-block-requires-clause-few_atoms c = (note_asks c.requires.noted).1
@@ -12,10 +12,10 @@ pub overflow_sub-left : goal.overflow_sub-left
 overflow_sub-left c = omega (arith, index_below c.requires.noted)
 
 pub walk-requires-clause-room_for : goal.walk-requires-clause-room_for
-walk-requires-clause-room_for c = note_room c.requires.noted c.annotation_block-block.ensures (omega (arith, c.requires.workspace.words, c.annotation_block-block.auto.ws))
+walk-requires-clause-room_for c = note_room c.requires.noted (rw c.proof_start-end.ensures at c.annotation_block-block.ensures) (omega (arith, c.requires.workspace.words, c.annotation_block-block.auto.ws))
 
 pub walk-requires-clause-all_left : goal.walk-requires-clause-all_left
-walk-requires-clause-all_left c = note_left c.requires.noted c.annotation_block-block.ensures
+walk-requires-clause-all_left c = note_left c.requires.noted (rw c.proof_start-end.ensures at c.annotation_block-block.ensures)
 
 pub returns : goal.returns
-returns c = note_walks c.requires.noted c.annotation_block-block.ensures c.walk.ensures
+returns c = note_walks c.requires.noted (rw c.proof_start-end.ensures at c.annotation_block-block.ensures) c.walk.ensures

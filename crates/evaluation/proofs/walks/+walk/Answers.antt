@@ -4,7 +4,7 @@ use Rattle.evaluation.proofs.WalkLaws.{walk_done, after_credit, walk_refuses, wa
 use Rattle.evaluation.proofs.walks.+walk.Goals as goal
 
 pub returns-then-left-eq0 : goal.returns-then-left-eq0
-returns-then-left-eq0 t c = walk_done c.args.credit c.if-left-eq0.true
+returns-then-left-eq0 t c = rw c.refused.ensures (walk_done c.args.credit c.if-left-eq0.true)
 
 pub returns-in_err-next : goal.returns-in_err-next
 returns-in_err-next t c = rw (stopped _ _ c.from_residual.ensures.1) (walk_refuses c.args.credit (omega (arith, c.if-left-eq0.false)) c.fetch-instruction.ensures c.in_err-next.ensures)

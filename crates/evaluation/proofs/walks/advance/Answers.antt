@@ -1,3 +1,4 @@
+use Rattle.setting.proofs.Standing.{postcondition_stands, regions_stand, tables_stand}
 use Rattle.model.specs.Goals.{move}
 use Rattle.paths.proofs.Kept.{register_term}
 use Rattle.evaluation.proofs.Advancing.{formed_as, advances, assigns}
@@ -29,30 +30,30 @@ returns-in-Shift c = assigns c.args.instruction c.requires.reached (λ _ _. rw c
 
 pub returns-in-Load : goal.returns-in-Load
 unfolding move
-returns-in-Load c = advances c.args.instruction (λ _ _. rw c.in-Load.is) (c.load.ensures.moves _)
+returns-in-Load c = advances c.args.instruction (λ _ _ s. regions_stand c.args.setting.now s) (λ _ _. rw c.in-Load.is) (c.load.ensures.moves _)
 
 pub returns-in-Store : goal.returns-in-Store
 unfolding move
-returns-in-Store c = advances c.args.instruction (λ _ _. rw c.in-Store.is) (c.store.ensures.moves _)
+returns-in-Store c = advances c.args.instruction (λ _ _ s. regions_stand c.args.setting.now s) (λ _ _. rw c.in-Store.is) (c.store.ensures.moves _)
 
 pub returns-in-Jump : goal.returns-in-Jump
 unfolding move
-returns-in-Jump c = advances c.args.instruction (λ _ _. rw c.in-Jump.is) c.jump_to.ensures
+returns-in-Jump c = advances c.args.instruction (λ _ _ s. tables_stand c.args.setting.now s) (λ _ _. rw c.in-Jump.is) c.jump_to.ensures
 
 pub returns-in-Return : goal.returns-in-Return
 unfolding move
-returns-in-Return c = advances c.args.instruction (λ _ _. rw c.in-Return.is) c.return_from.ensures
+returns-in-Return c = advances c.args.instruction (λ _ _ s. (regions_stand c.args.setting.now s, (_, postcondition_stands c.args.setting.now s))) (λ _ _. rw c.in-Return.is) c.return_from.ensures
 
 pub returns-in-JumpLess : goal.returns-in-JumpLess
 unfolding move
 returns-in-JumpLess c =
     let below = formed_as _ c.requires.formed c.in-JumpLess.is in
     let held = c.requires.room_for.path_in in
-    advances c.args.instruction (λ _ _. rw (c.in-JumpLess.is, register_term held _ below.0, register_term held _ below.1)) c.branch_to.ensures
+    advances c.args.instruction (λ _ _ s. tables_stand c.args.setting.now s) (λ _ _. rw (c.in-JumpLess.is, register_term held _ below.0, register_term held _ below.1)) c.branch_to.ensures
 
 pub returns-in-JumpEqual : goal.returns-in-JumpEqual
 unfolding move
 returns-in-JumpEqual c =
     let below = formed_as _ c.requires.formed c.in-JumpEqual.is in
     let held = c.requires.room_for.path_in in
-    advances c.args.instruction (λ _ _. rw (c.in-JumpEqual.is, register_term held _ below.0, register_term held _ below.1)) c.branch_to-in-JumpEqual.ensures
+    advances c.args.instruction (λ _ _ s. tables_stand c.args.setting.now s) (λ _ _. rw (c.in-JumpEqual.is, register_term held _ below.0, register_term held _ below.1)) c.branch_to-in-JumpEqual.ensures

@@ -1,8 +1,5 @@
-use Rattle.evaluation.proofs.WalkLaws.{fetched, not_fetched}
+use Rattle.evaluation.proofs.WalkLaws.{fetched}
 use Rattle.evaluation.proofs.walks.fetch.Goals as goal
 
-pub returns-in-Ok : goal.returns-in-Ok
-returns-in-Ok c = fetched c.args.setting.now c.requires c.in-Ok.ensures.is c.in-Ok.ensures.formed
-
-pub returns-in-Err : goal.returns-in-Err
-returns-in-Err c = not_fetched c.args.setting.now c.requires c.in-Err.ensures.is
+pub returns : goal.returns
+returns c = rw c.unwrap_or.ensures (fetched c.args.setting.now c.requires _ c.instruction.ensures.is c.instruction.ensures.formed)
