@@ -1,27 +1,28 @@
 -- The laws of one annotation, one for each way out of its reader. Assumes nothing.
 use mathlib.Core.Path.{◌≡◌, refl, sym, ap, ◌∙◌}
-use mathlib.Core.Bool.{true, false, ◌&&◌, and-eq-true_iff}
+use mathlib.Core.Bool.{Bool, true, false, ◌&&◌}
 use mathlib.Core.List.{List}
 use native.Mathlib.Omega.{arith}
 use Prim.Native.Nat.{ℕ, ◌+◌, ◌≤◌, ◌<◌}
 use lib.ListN.{get_or}
 use lib.Dec.{leb, ltb}
-use borrow.Author.Tests.{le-leb, lt-leb, ltb-true}
+use borrow.Author.Tests.{le-leb, lt-leb}
+use Rattle.std.specs.Ordering.{is_le, is_lt, nat_cmp}
 use Rattle.model.specs.Result.{Result, Err, Ok, ◌>>=◌, check, map_err}
 use Rattle.model.specs.Word.{le16}
 use Rattle.model.specs.Term.{Term}
 use Rattle.model.specs.Atom.{Atom, most_atoms}
 use Rattle.model.specs.Field.{byte_at, half_at}
 use Rattle.model.specs.declared.ReadError.{ReadError}
-use Rattle.model.specs.declared.ReadError.TheVariants.{Missing, Fault}
 use Rattle.model.specs.Expression.{register_count, expression_at, atoms_at}
 use Rattle.model.specs.Package.{proof_start}
 use Rattle.model.specs.Annotation.{Annotation, annotation_refusal, annotation_field, annotation_from}
 use Rattle.model.specs.declared.Header.{Header}
 use Rattle.model.specs.declared.Refusal.{Refusal}
 use Rattle.model.specs.declared.Refusal.TheVariants.{BadAnnotation, AnnotationBytes}
+use Rattle.model.proofs.Ranges.{told_below}
 use Rattle.expressions.specs.Reading.{ends}
-use Rattle.expressions.proofs.ReadingLaws.{read_next, read_stops, still_stops}
+use Rattle.expressions.proofs.ReadingLaws.{read_next, still_stops}
 use Rattle.annotations.specs.declared.reading.AnnotationRead.{AnnotationRead}
 use Rattle.annotations.specs.Bodies.{body_at}
 use Rattle.annotations.specs.Annotations.{read_of}
@@ -62,6 +63,12 @@ module _ (g : ReadError → Refusal) (index : ℕ) where
   together (Err e) f = refl
   together (Ok x) f = together_atoms x.0 (f x.1)
 
+  -- without the terms, what is read is the index and where the next begins
+  read_end : (m : Result ((Term × List Atom) × ℕ) ReadError) → read_of (map_err g m >>= made index) ≡ (map_err g (ends m) >>= λ q. Ok (record { index = index; next = q }))
+  unfolding ◌>>=◌ map_err ends read_of made
+  read_end (Err e) = refl
+  read_end (Ok x) = refl
+
 -- ---- one annotation; `end` is where the section ends, and the laws follow the code's tests
 module _ (bytes : List ℕ) (h : Header) (lowest p end : ℕ) (ends_at : end ≡ proof_start h) where
   abbrev here : Result AnnotationRead Refusal
@@ -71,14 +78,18 @@ module _ (bytes : List ℕ) (h : Header) (lowest p end : ℕ) (ends_at : end ≡
   unfolding read_of annotation_from annotation_refusal half_at ◌>>=◌ check map_err
   no_index l = rw (ends_at, lt-leb (p + 2) (proof_start h) (omega arith), annotation_from)
 
-  module _ (two : p + 2 ≤ end) (index : ℕ) (ei : index ≡ le16 bytes p) where
-    pub bad_index : (leb lowest index && ltb index h.instructions) ≡ false → Err (BadAnnotation p) ≡ here
-    unfolding read_of annotation_from annotation_refusal half_at ◌>>=◌ check map_err
-    bad_index t = rw (le-leb (p + 2) (proof_start h) (omega arith), ← ei, t, annotation_from)
+  module _ (two : p + 2 ≤ end) (index : ℕ) (ei : index ≡ le16 bytes p) (within : Bool) (told : within ≡ (is_le (nat_cmp lowest index) && is_lt (nat_cmp index h.instructions))) where
+    -- the range's test is the definition's
+    tests : within ≡ (leb lowest index && ltb index h.instructions)
+    tests = told_below lowest index h.instructions told
 
-    module _ (t : (leb lowest index && ltb index h.instructions) ≡ true) where
-      pub index_inside : index < h.instructions
-      index_inside = ltb-true index h.instructions ((and-eq-true_iff (leb lowest index) (ltb index h.instructions)).0 t).1
+    pub bad_index : within ≡ false → Err (BadAnnotation p) ≡ here
+    unfolding read_of annotation_from annotation_refusal half_at ◌>>=◌ check map_err
+    bad_index n = rw (le-leb (p + 2) (proof_start h) (omega arith), ← ei, ← tests, n, annotation_from)
+
+    module _ (passed : within ≡ true) where
+      t : (leb lowest index && ltb index h.instructions) ≡ true
+      t = sym tests ∙ passed
 
       pub no_count : end < p + 3 → Err (AnnotationBytes end) ≡ here
       unfolding read_of annotation_from annotation_refusal half_at byte_at ◌>>=◌ check map_err
@@ -95,18 +106,14 @@ module _ (bytes : List ℕ) (h : Header) (lowest p end : ℕ) (ends_at : end ≡
           unfolding annotation_from half_at byte_at body_at ◌>>=◌ check map_err made
           by_body = rw (ends_at, le-leb (p + 2) (proof_start h) (omega arith), ← ei, t, le-leb (p + 2 + 1) (proof_start h) (omega arith), ← ec, le-leb count most_atoms few, annotation_from) (together (annotation_refusal bytes h) index (expression_at bytes (proof_start h) register_count (p + 3)) (λ q. atoms_at bytes (proof_start h) register_count count q))
 
-          stops : (x : ReadError) → Err x ≡ ends (body_at bytes end count (p + 3)) → annotation_from bytes h lowest p ≡ Err (annotation_refusal bytes h x)
-          unfolding ◌>>=◌ map_err
-          stops x e = by_body ∙ rw (read_stops (body_at bytes end count (p + 3)) x e)
+          -- the body's end, with its error as the routine's refusal
+          abbrev body : Result ℕ Refusal
+          body = map_err (annotation_refusal bytes h) (ends (body_at bytes end count (p + 3)))
 
-          pub no_body : Err Missing ≡ ends (body_at bytes end count (p + 3)) → Err (AnnotationBytes end) ≡ here
-          unfolding read_of annotation_refusal
-          no_body e = rw (stops Missing e, ends_at)
+          pub no_body : (x : Refusal) → Err x ≡ body → Err x ≡ here
+          unfolding ◌>>=◌
+          no_body x e = sym (ap read_of by_body ∙ read_end (annotation_refusal bytes h) index (body_at bytes end count (p + 3)) ∙ rw (← e))
 
-          pub bad_body : (f : ℕ) → Err (Fault f) ≡ ends (body_at bytes end count (p + 3)) → Err (AnnotationBytes f) ≡ here
-          unfolding read_of annotation_refusal
-          bad_body f e = rw (stops (Fault f) e)
-
-          pub whole : (q : ℕ) → Ok q ≡ ends (body_at bytes end count (p + 3)) → Ok (record { index = index; next = q }) ≡ here
-          unfolding read_of ◌>>=◌ map_err made
-          whole q e = let x = read_next (body_at bytes end count (p + 3)) q e in ap read_of (sym (by_body ∙ ap (λ (m : Result ((Term × List Atom) × ℕ) ReadError). annotation_field bytes h m >>= made index) x.1))
+          pub whole : (q : ℕ) → Ok q ≡ body → Ok (record { index = index; next = q }) ≡ here
+          unfolding ◌>>=◌
+          whole q e = sym (ap read_of by_body ∙ read_end (annotation_refusal bytes h) index (body_at bytes end count (p + 3)) ∙ rw (← e))

@@ -1,19 +1,17 @@
 -- The laws of the list of annotations, one for each way out of its reader. Assumes nothing.
-use mathlib.Core.Path.{◌≡◌, refl, sym, ap, subst, ◌∙◌}
+use mathlib.Core.Path.{◌≡◌, refl, sym, ap, ◌∙◌}
 use mathlib.Core.Bool.{◌&&◌, and-eq-true_iff}
 use mathlib.Core.List.{List, [], ◌∷◌, ◌++◌, map, append_assoc, append-nil}
 use native.Mathlib.Omega.{arith}
 use Prim.Native.Nat.{ℕ, suc, ◌+◌, ◌-◌, ◌≤◌, ◌<◌, zero-le}
-use lib.ListN.{length, take, set, length-set}
-use lib.Seq.{length-take-le}
+use lib.ListN.{length, length-append}
 use lib.Dec.{leb, ltb, eqb}
 use borrow.Author.Tests.{le-leb, eq-eqb, ne_eqb}
 use Rattle.std.specs.List.{All}
-use Rattle.std.proofs.lemmas.List.{take_more_set}
 use Rattle.std.proofs.lemmas.List.Elements.{All-nil, All-push}
 use Rattle.model.specs.Result.{Result, Err, Ok, ◌>>=◌, check}
 use Rattle.model.specs.Field.{half_at}
-use Rattle.model.specs.Package.{most_annotations, annotation_start, proof_start}
+use Rattle.model.specs.Package.{annotation_start, proof_start}
 use Rattle.model.specs.Annotation.{Annotation, annotation_field, annotation_from, annotations_from, read_annotations}
 use Rattle.model.specs.declared.Header.{Header}
 use Rattle.model.specs.declared.Refusal.{Refusal}
@@ -21,7 +19,7 @@ use Rattle.model.specs.declared.Refusal.TheVariants.{BadAnnotation, AnnotationBy
 use Rattle.model.proofs.Results.{bound, past_check}
 use Rattle.annotations.specs.declared.reading.AnnotationRead.{AnnotationRead}
 use Rattle.annotations.specs.declared.reading.Annotated.{Annotated}
-use Rattle.annotations.specs.Annotations.{read_of, Inside, annotation_at_place, Placed, annotations_at, indexes_of, indexes_in, Tabled}
+use Rattle.annotations.specs.Annotations.{read_of, Inside, annotation_at_place, Placed, annotations_at, indexes_of, indexes_in}
 
 -- one more at the end of a list
 map_push : {A B : Type 0} (f : A → B) (l : List A) (a : A) → map f (l ++ (a ∷ [])) ≡ map f l ++ (f a ∷ [])
@@ -99,58 +97,49 @@ module _ (bytes : List ℕ) (h : Header) where
   joined (Err e) before a = refl
   joined (Ok x) before a = ap (λ (l : List Annotation). check (eqb x.1 (proof_start h)) (AnnotationBytes x.1) >>= λ _. Ok l) (sym (append_assoc before (a ∷ []) x.0))
 
-  -- the first annotations are in the list, and the reading goes on at p
+  -- so many annotations are in the list, and the reading goes on at p
   pub record Noting (list : List Annotated) (lowest p count : ℕ) : Type 0 where
-    pub full : length list ≡ most_annotations
+    pub long : length list ≡ count
     pub near : p ≤ proof_start h
-    pub listed : indexes_in (take count list) ≡ indexes_of (annotations_at bytes h (take count list))
-    pub placed : All (λ (x : Annotated). Placed bytes h x.at) (take count list)
-    pub rest : read_annotations bytes h ≡ (annotations_from bytes h (h.annotations - count) lowest p >>= finish (annotations_at bytes h (take count list)))
+    pub listed : indexes_in list ≡ indexes_of (annotations_at bytes h list)
+    pub placed : All (λ (x : Annotated). Placed bytes h x.at) list
+    pub rest : read_annotations bytes h ≡ (annotations_from bytes h (h.annotations - count) lowest p >>= finish (annotations_at bytes h list))
 
-  pub note_start : (list : List Annotated) (p : ℕ) → length list ≡ most_annotations → p ≡ annotation_start h → Noting list 0 p 0
+  pub note_start : (list : List Annotated) (p : ℕ) → list ≡ [] → p ≡ annotation_start h → Noting list 0 p 0
   unfolding read_annotations finish ◌>>=◌
-  note_start list p full e = record {
-    full = full;
+  note_start list p none e = rw none (record {
+    long = refl;
     near = omega arith;
     listed = refl;
     placed = All-nil _;
     rest = let s : h.annotations ≡ h.annotations - 0 = omega arith in rw e (ap (λ (k : ℕ). annotations_from bytes h k 0 (annotation_start h) >>= finish []) s);
-  }
+  })
 
   module _ (list : List Annotated) (lowest p count : ℕ) (g : Noting list lowest p count) where
-    module _ (l : count < h.annotations) (few : h.annotations ≤ most_annotations) where
-      pub note_more : (r : AnnotationRead) → Ok r ≡ read_of (annotation_from bytes h lowest p) → Inside h r → Noting (set list count (record { index = r.index; at = p })) (r.index + 1) r.next (count + 1)
-      note_more r e inside =
+    module _ (l : count < h.annotations) where
+      pub note_more : (r : AnnotationRead) → Ok r ≡ read_of (annotation_from bytes h lowest p) → Inside h r → (more : List Annotated) → more ≡ list ++ (record { index = r.index; at = p } ∷ []) → Noting more (r.index + 1) r.next (count + 1)
+      note_more r e inside more is =
           let s = stands lowest p r e in
           let a = annotation_at_place bytes h p in
           let x : Annotated = record { index = r.index; at = p } in
-          let before = take count list in
-          let after : take (count + 1) (set list count x) ≡ before ++ (x ∷ []) = take_more_set list count x (rw g.full (omega arith)) in
-          let with_one : annotations_at bytes h (before ++ (x ∷ [])) ≡ annotations_at bytes h before ++ (a ∷ []) = map_push (λ (y : Annotated). annotation_at_place bytes h y.at) before x in
-          record {
-            full = length-set list count x ∙ g.full;
+          let with_one : annotations_at bytes h (list ++ (x ∷ [])) ≡ annotations_at bytes h list ++ (a ∷ []) = map_push (λ (y : Annotated). annotation_at_place bytes h y.at) list x in
+          rw is (record {
+            long = simp length-append (omega (arith, g.long));
             near = inside.1;
-            listed = rw (after, with_one, map_push (λ (y : Annotated). y.index) before x, map_push (λ (y : Annotation). y.index) (annotations_at bytes h before) a, s.named, g.listed);
-            placed = rw after (All-push (λ (y : Annotated). Placed bytes h y.at) before x g.placed s.placed);
-            rest = rw (after, with_one) (g.rest ∙ ap (λ (m : Result (List Annotation × ℕ) Refusal). m >>= finish (annotations_at bytes h before)) (one_more count lowest p r.index r.next l s) ∙ joined _ (annotations_at bytes h before) a);
-          }
+            listed = rw (with_one, map_push (λ (y : Annotated). y.index) list x, map_push (λ (y : Annotation). y.index) (annotations_at bytes h list) a, s.named, g.listed);
+            placed = All-push (λ (y : Annotated). Placed bytes h y.at) list x g.placed s.placed;
+            rest = rw with_one (g.rest ∙ ap (λ (m : Result (List Annotation × ℕ) Refusal). m >>= finish (annotations_at bytes h list)) (one_more count lowest p r.index r.next l s) ∙ joined _ (annotations_at bytes h list) a);
+          })
 
       pub note_refused : (x : Refusal) → Err x ≡ read_of (annotation_from bytes h lowest p) → Err x ≡ read_annotations bytes h
       unfolding ◌>>=◌
       note_refused x e = sym (g.rest ∙ rw (ends count lowest p x l (read_none (annotation_from bytes h lowest p) x e)))
 
-    module _ (all : count ≡ h.annotations) where
+    module _ (all : h.annotations ≤ count) where
       pub note_spare : (p ≡ proof_start h → ⊥) → Err (AnnotationBytes p) ≡ read_annotations bytes h
       unfolding finish ◌>>=◌ check
-      note_spare n = sym (g.rest ∙ rw (none_left count lowest p (omega arith), ne_eqb p (proof_start h) n, finish))
+      note_spare n = sym (g.rest ∙ rw (none_left count lowest p all, ne_eqb p (proof_start h) n, finish))
 
-      pub note_done : p ≡ proof_start h → Ok (annotations_at bytes h (take h.annotations list)) ≡ read_annotations bytes h
+      pub note_done : p ≡ proof_start h → Ok (annotations_at bytes h list) ≡ read_annotations bytes h
       unfolding finish ◌>>=◌ check
-      note_done e = sym (g.rest ∙ rw (none_left count lowest p (omega arith), eq-eqb p (proof_start h) e, append-nil, all, finish))
-
-      pub note_tabled : h.annotations ≤ most_annotations → Tabled bytes h (take h.annotations list)
-      note_tabled few = subst (λ (k : ℕ). Tabled bytes h (take k list)) all (record {
-        long = length-take-le count list (rw g.full (omega arith)) ∙ all;
-        listed = g.listed;
-        placed = λ k other below. g.placed k other below;
-      })
+      note_done e = sym (g.rest ∙ rw (none_left count lowest p all, eq-eqb p (proof_start h) e, append-nil, finish))

@@ -1,16 +1,17 @@
 // The reading of annotations: checks 10 and 11.
-ghost use Rattle.std.specs.Prelude.{◌≡◌, ◌≤◌, ◌<◌, IfOk, List, length, take};
-ghost use Rattle.model.specs.Package.{most_annotations, proof_start};
+ghost use Rattle.std.specs.Prelude.{◌≡◌, ◌≤◌, IfOk, length};
+ghost use Rattle.lists.specs.Lists.{listed};
+ghost use Rattle.model.specs.Result.{map_ok};
+ghost use Rattle.model.specs.Package.{proof_start};
 ghost use Rattle.model.specs.Annotation.{annotation_from, read_annotations};
 ghost use Rattle.expressions.specs.Reading.{ends};
-ghost use Rattle.annotations.specs.declared.reading.Annotated.{Annotated};
 ghost use Rattle.annotations.specs.Bodies.{body_at};
 ghost use Rattle.annotations.specs.Annotations.{read_of, Inside, with_terms, Tabled};
 
 use header::package::Package;
 use limits::{MOST_ANNOTATIONS, MOST_ATOMS, REGISTERS};
+use lists::Few;
 use model::{ReadError, Refusal};
-use std::marker::Model;
 
 // Where what stands after an annotation's atom count ends: its credit and so many atoms.
 fn body(bytes: &[u8], end: usize, count: usize, at: usize) -> Result<usize, ReadError>
@@ -41,7 +42,7 @@ pub fn annotation(routine: &Package, lowest: usize, at: usize) -> Result<Annotat
         return Err(Refusal::AnnotationBytes(end));
     }
     let index = fields::half(bytes, at);
-    if !((lowest <= index) & (index < routine.header.instructions)) {
+    if !(lowest..routine.header.instructions).contains(&index) {
         return Err(Refusal::BadAnnotation(at));
     }
     if end - at < 3 {
@@ -51,11 +52,11 @@ pub fn annotation(routine: &Package, lowest: usize, at: usize) -> Result<Annotat
     if MOST_ATOMS < count {
         return Err(Refusal::BadAnnotation(at + 2));
     }
-    match body(bytes, end, count, at + 3) {
-        Ok(next) => Ok(AnnotationRead { index, next }),
-        Err(ReadError::Missing) => Err(Refusal::AnnotationBytes(end)),
-        Err(ReadError::Fault(place)) => Err(Refusal::AnnotationBytes(place)),
-    }
+    let next = body(bytes, end, count, at + 3).map_err(|error| match error {
+        ReadError::Missing => Refusal::AnnotationBytes(end),
+        ReadError::Fault(place) => Refusal::AnnotationBytes(place),
+    })?;
+    Ok(AnnotationRead { index, next })
 }
 
 // An instruction that has an annotation, and the annotation's place in the bytes.
@@ -65,53 +66,31 @@ pub struct Annotated {
     pub at: usize,
 }
 
-// The annotations of a package that passes checks 10 and 11: the first `count` of `list`.
-#[derive(Drop)]
-pub struct Annotations {
-    count: usize,
-    list: [Annotated; MOST_ANNOTATIONS],
-}
+// The annotations of a package that passes checks 10 and 11, in the order of their indexes.
+pub type Annotations = Few<Annotated, MOST_ANNOTATIONS>;
 
-impl Model for Annotations {
-    ghost Value = { List Annotated };
-
-    ghost view = { λ annotations. take annotations.count annotations.list };
-
-    ghost invariant = { λ annotations. annotations.count ≤ most_annotations };
-}
-
-impl Annotations {
-    // The annotations, in the order of their indexes.
-    pub fn as_slice(&self) -> &[Annotated]
-        ensures same { result.now ≡ self.now }
-        ensures few { length self.now ≤ most_annotations }
-    {
-        &self.list[..self.count]
-    }
-}
+// What stands in memory where no annotation is.
+const NOWHERE: Annotated = Annotated { index: 0, at: 0 };
 
 // The annotations in turn, or what check 10 or 11 refuses.
 pub fn read_annotations(routine: &Package) -> Result<Annotations, Refusal>
-    ensures is { with_terms routine.now.bytes.now routine.now.header result ≡ read_annotations routine.now.bytes.now routine.now.header }
-    ensures tabled { IfOk result (Tabled routine.now.bytes.now routine.now.header) }
+    ensures is { with_terms routine.now.bytes.now routine.now.header (map_ok listed result) ≡ read_annotations routine.now.bytes.now routine.now.header }
+    ensures tabled { IfOk result (λ annotations. Tabled routine.now.bytes.now routine.now.header (listed annotations)) }
 {
-    let mut list = [Annotated { index: 0, at: 0 }; MOST_ANNOTATIONS];
+    let mut annotations = Few::new(NOWHERE);
     let mut lowest = 0;
     let mut at = routine.annotation_start();
-    for count in 0..routine.header.annotations {
+    for _ in 0..routine.header.annotations {
         let read = annotation(routine, lowest, at)?;
-        list[count] = Annotated {
+        annotations.push(Annotated {
             index: read.index,
             at,
-        };
+        });
         lowest = read.index + 1;
         at = read.next;
     }
     if at != routine.proof_start() {
         return Err(Refusal::AnnotationBytes(at));
     }
-    Ok(Annotations {
-        count: routine.header.annotations,
-        list,
-    })
+    Ok(annotations)
 }

@@ -1,5 +1,5 @@
 // The rules of arithmetic: what each asks of a claim. New nodes stand from the table's top on, at most four of them.
-#![tactic(auto)]
+#![tactic(auto, using(claims::proofs::StepLaws::steps), unfolding(model::specs::Rule::premises, model::specs::Rule::sum_of, crate::specs::Monotone::monotone_premises))]
 
 ghost use Rattle.model.specs.Rule.{congruence, linear, zero_at_most, successor_at_most, below_successor, sum_no_overflow};
 ghost use Rattle.nodes.specs.Table.{Formed, Space};

@@ -19,7 +19,7 @@ use Rattle.nodes.specs.Table.{place, term_at, Put}
 use Rattle.leaf_reader.specs.Leaves.{Grown}
 use Rattle.leaf_reader.specs.declared.Parsed.{Parsed}
 use Rattle.leaf_reader.specs.declared.sources.Source.{Source}
-use Rattle.term_reader.specs.Reader.{expression_in}
+use Rattle.term_reader.specs.Reader.{expression_in, expression_answer}
 use Rattle.claims.specs.Parts.{claim_of}
 use Rattle.claims.specs.declared.Claim.TheVariants.{Atom as AtomClaim}
 use Rattle.model.specs.declared.Region.{Region}
@@ -36,7 +36,7 @@ use Rattle.paths.proofs.Reading.{same_value}
 use Rattle.goals.proofs.Judging.{judges_stopped, judges_both}
 use Rattle.paths.proofs.Walking.{node_same, node_kept, path_same, node_raised, Above, above_put, above_more, above_kept}
 use Rattle.goals.proofs.Room.{going_kept, going_above, going_fewer}
-use Rattle.paths.proofs.Found.{TermFound, term_found, source_term, not_mapped}
+use Rattle.paths.proofs.Found.{TermFound, term_found}
 use Rattle.goals.proofs.Settling.{left_below, raised_goal, raised_atoms, raised_asks}
 
 -- ---- the goal that so many instructions are at most the credit
@@ -148,16 +148,11 @@ read_from : (bytes : List ℕ) (end number : ℕ) {q p : ℕ} {x : List Atom × 
 read_from bytes end number {x = x} e h = subst (λ z. atoms_at bytes end register_count number z ≡ Ok x) e h
 
 module _ {bytes : List ℕ} {end : ℕ} where
-  -- it has been read before
-  pub arrival_unread : {ws us : List ℕ} {path : Path} {p : Progress} {credit : Term} {at : ℕ} {f : ReadError} {x : Refused} {regions : List Region} {over : Source} → OverRegisters path bytes end over → Grown ws us over.end path.top most_nodes (Err f)
-      → Err f ≡ expression_in ws over (at + 3) → ArrivalJudged ws us bytes regions path p (Err x) credit end at
-  arrival_unread {ws = ws} {at = at} o g a = record { judges = λ policy k n q next e i. absurd (not_mapped _ _ (a ∙ source_term o ws (at + 3)) e); left = record { kept = g.kept; reached = tt } }
-
   module _ {ws us : List ℕ} {credit : ℕ} {path m : Path} {x : Parsed} {p : Progress} {over : Source} (at : ℕ) (y : Going ws bytes goal_room path p) (n : NodeIn ws path credit) (o : OverRegisters path bytes end over) (l : length us ≡ length ws)
-      (grown : Grown ws us over.end path.top most_nodes (Ok x)) (read : Ok (term_at us x.node, x.next) ≡ expression_in ws over (at + 3))
+      {answer : Result Parsed ReadError} (grown : Grown ws us over.end path.top most_nodes answer) (read : expression_answer us answer ≡ expression_in ws over (at + 3)) (is : answer ≡ Ok x)
       (e : m ≡ raised_to path x.top) where
     found : TermFound ws us bytes path end (at + 3) x
-    found = term_found y.inside l o grown read
+    found = term_found y.inside l o (rw is at grown) (rw is at read)
 
     pub arrival_asks : Going us bytes atom_room m p
     arrival_asks = subst (λ (z : Path). Going us bytes atom_room z p) (sym e) (going_above atom_room (omega arith) found.above l y)

@@ -7,12 +7,12 @@ ghost use Rattle.paths.specs.Walking.{NodeIn};
 ghost use Rattle.goals.specs.Room.{Going, credit_room, goal_room};
 ghost use Rattle.arrivals.specs.Arriving.{CreditsJudged, ArrivalJudged, ReturnJudged};
 
+use blocks::Block;
 use claims::Claim;
 use derivation::Grounds;
 use goals::Progress;
 use model::{Comparison, Refusal};
 use nodes::{Atom, Operation};
-use paths::Path;
 use policy::Condition;
 use refusals::Refused;
 
@@ -20,22 +20,21 @@ use refusals::Refused;
 fn credits(
     grounds: &Grounds,
     ws: &mut [u32],
-    path: Path,
-    credit: usize,
+    block: Block,
     owed: usize,
     progress: Progress,
 ) -> Result<Progress, Refused>
-    requires going { Going ws.old grounds.now.bytes.now credit_room path progress }
-    requires credit_in { NodeIn ws.old path credit }
-    requires owed_in { NodeIn ws.old path owed }
-    ensures { CreditsJudged ws.old ws.new grounds.now.bytes.now grounds.now.regions.now path progress result (term_at ws.old credit) (term_at ws.old owed) }
+    requires going { Going ws.old grounds.now.bytes.now credit_room block.path progress }
+    requires credit_in { NodeIn ws.old block.path block.credit }
+    requires owed_in { NodeIn ws.old block.path owed }
+    ensures { CreditsJudged ws.old ws.new grounds.now.bytes.now grounds.now.regions.now block.path progress result (term_at ws.old block.credit) (term_at ws.old owed) }
 {
-    let spent = path.top;
+    let spent = block.path.top;
     let rest = spent + 1;
-    terms::put_constant(ws, spent, path.steps as u32);
-    terms::put_pair(ws, rest, Operation::Difference, credit, spent);
-    let inner = path.raised(rest + 1);
-    let covered = Claim::Atom(Atom::new(Comparison::AtMost, spent, credit));
+    terms::put_constant(ws, spent, block.path.steps as u32);
+    terms::put_pair(ws, rest, Operation::Difference, block.credit, spent);
+    let inner = block.path.raised(rest + 1);
+    let covered = Claim::Atom(Atom::new(Comparison::AtMost, spent, block.credit));
     let after = goals::goal(grounds, ws, inner, covered, progress)?;
     let left = Claim::Atom(Atom::new(Comparison::AtMost, owed, rest));
     goals::goal(grounds, ws, inner, left, after)
@@ -48,27 +47,28 @@ pub fn arrival(
     end: usize,
     at: usize,
     ws: &mut [u32],
-    path: Path,
-    credit: usize,
+    block: Block,
     progress: Progress,
 ) -> Result<Progress, Refused>
     requires end_in_bounds { (end ≤ length grounds.now.bytes.now) × (at + 2 < end) }
-    requires going { Going ws.old grounds.now.bytes.now goal_room path progress }
-    requires credit_in { NodeIn ws.old path credit }
-    ensures { ArrivalJudged ws.old ws.new grounds.now.bytes.now grounds.now.regions.now path progress result (term_at ws.old credit) end at }
+    requires going { Going ws.old grounds.now.bytes.now goal_room block.path progress }
+    requires credit_in { NodeIn ws.old block.path block.credit }
+    ensures { ArrivalJudged ws.old ws.new grounds.now.bytes.now grounds.now.regions.now block.path progress result (term_at ws.old block.credit) end at }
 {
     let bytes = grounds.bytes;
-    let source = path.source(bytes, end);
-    let Ok(owed) = term_reader::expression(&source, ws, at + 3, path.top) else {
-        return Err(progress.refused(Refusal::AnnotationBytes(at)));
+    let source = block.path.source(bytes, end);
+    let found = term_reader::expression(&source, ws, at + 3, block.path.top);
+    let owed = found.map_err(|_| progress.refused(Refusal::AnnotationBytes(at)))?;
+    let inner = Block {
+        path: block.path.raised(owed.top),
+        ..block
     };
-    let inner = path.raised(owed.top);
     let condition = Condition {
         at: owed.next,
         atoms: usize::from(bytes[at + 2]),
     };
-    let after = goals::atoms(grounds, bytes, end, condition, ws, inner, progress)?;
-    credits(grounds, ws, inner, credit, owed.node, after)
+    let after = goals::atoms(grounds, bytes, end, condition, ws, inner.path, progress)?;
+    credits(grounds, ws, inner, owed.node, after)
 }
 
 // The goals of a return: the atoms of the postcondition, and the instructions run, the return counted, at most the credit.
@@ -77,19 +77,19 @@ pub fn returning(
     conditions: &[u8],
     postcondition: Condition,
     ws: &mut [u32],
-    path: Path,
-    credit: usize,
+    block: Block,
     progress: Progress,
 ) -> Result<Progress, Refused>
-    requires going { Going ws.old grounds.now.bytes.now goal_room path progress }
-    requires credit_in { NodeIn ws.old path credit }
-    ensures { ReturnJudged ws.old ws.new grounds.now.bytes.now grounds.now.regions.now path progress result (term_at ws.old credit) conditions.now postcondition }
+    requires going { Going ws.old grounds.now.bytes.now goal_room block.path progress }
+    requires credit_in { NodeIn ws.old block.path block.credit }
+    ensures { ReturnJudged ws.old ws.new grounds.now.bytes.now grounds.now.regions.now block.path progress result (term_at ws.old block.credit) conditions.now postcondition }
 {
+    let path = block.path;
     let end = conditions.len();
     let after = goals::atoms(grounds, conditions, end, postcondition, ws, path, progress)?;
     let spent = path.top;
     terms::put_constant(ws, spent, (path.steps + 1) as u32);
     let inner = path.raised(spent + 1);
-    let covered = Claim::Atom(Atom::new(Comparison::AtMost, spent, credit));
+    let covered = Claim::Atom(Atom::new(Comparison::AtMost, spent, block.credit));
     goals::goal(grounds, ws, inner, covered, after)
 }

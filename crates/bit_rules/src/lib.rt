@@ -1,5 +1,5 @@
 // The rules of masks and shifts: what each asks of a claim. None has a premise, and none makes a new node.
-#![tactic(auto)]
+#![tactic(auto, using(claims::proofs::StepLaws::steps), unfolding(model::specs::Rule::premises, model::specs::Rule::mask_of))]
 
 ghost use Rattle.model.specs.Rule.{mask_at_most, shift_at_most, shift_bounded};
 ghost use Rattle.nodes.specs.Table.{Formed};

@@ -1,6 +1,6 @@
 -- Laws of a block's start: one for each way out. Assumes nothing.
 use mathlib.Core.Path.{◌≡◌, refl, sym, ap, subst, ◌∙◌}
-use mathlib.Core.Logic.{⊎_elim, ◌≢◌}
+use mathlib.Core.Logic.{⊎_elim}
 use mathlib.Core.List.{List, [], ◌∷◌, map, append-nil, append_assoc}
 use Prim.Native.Nat.{ℕ, ◌+◌, ◌-◌, ◌<◌, ◌≤◌}
 use native.Mathlib.Nat.{eq-or-lt_of_le, le_of_suc-le-suc}
@@ -19,7 +19,7 @@ use Rattle.workspace.specs.Layout.{most_assumptions, table_base, Same}
 use Rattle.workspace.proofs.Frames.{same_refl, same_trans, same_within}
 use Rattle.nodes.specs.Atoms.{atom_in}
 use Rattle.nodes.specs.Table.{place, term_at, Formed, Space, Put}
-use Rattle.nodes.proofs.Table.{formed_none, term_same}
+use Rattle.nodes.proofs.Table.{term_same}
 use Rattle.leaf_reader.specs.Leaves.{Ready, Grown, variable_term}
 use Rattle.leaf_reader.specs.declared.Parsed.{Parsed}
 use Rattle.leaf_reader.specs.declared.sources.Source.{Source}
@@ -36,10 +36,10 @@ use Rattle.policy.specs.declared.Condition.{Condition}
 use Rattle.annotations.specs.declared.reading.Annotated.{Annotated}
 use Rattle.paths.specs.declared.Path.{Path}
 use Rattle.paths.specs.Walking.{path_of, raised_to, OverRegisters, NodeIn, PathIn, Kept}
-use Rattle.paths.proofs.Reading.{same_value, no_atoms, first_atom}
+use Rattle.paths.proofs.Reading.{same_value, no_atoms, first_atom, after_atom}
 use Rattle.paths.proofs.Kept.{map_same, map_at, node_wider, node_held, registers_equal, path_equal, prepared_held, path_held}
 use Rattle.paths.proofs.Walking.{node_kept, path_same, path_kept, Above, above_put, path_ready}
-use Rattle.paths.proofs.Found.{TermFound, AtomFound, term_found, source_term, source_atom, not_mapped}
+use Rattle.paths.proofs.Found.{TermFound, AtomFound, term_found, atom_found, source_term, source_atom, not_mapped}
 use Rattle.blocks.specs.Starting.{assumed_path, Assumed, Workspace, Variables, start_path, Started, Fresh, assuming_all, AllAssumed, BlockIn, EntryBlock, AnnotationBlock}
 
 -- ---- an assumption more
@@ -70,9 +70,6 @@ module _ {ws us : List ℕ} {path : Path} {a : Atom} (y : PathIn ws path) (c : p
   }
 
 -- ---- the variables, one after the other
-pub variables_none : {ws : List ℕ} → least_workspace ≤ length ws → Variables ws ws 0
-variables_none {ws} w = record { kept = same_refl 0 table_base ws; formed = formed_none w; are = λ v h. absurd (omega arith) }
-
 pub variables_more : {ws us vs : List ℕ} {n : ℕ} → Variables ws us n → Put us vs n (variable n) → Variables ws vs (n + 1)
 variables_more {vs = vs} {n} f q = record {
   kept = same_trans f.kept (same_within 0 table_base (omega arith) (omega arith) q.kept);
@@ -126,85 +123,92 @@ all_none s = λ i. record { counter = s.counter; steps = s.steps; registers = s.
 all_more : (s : ModelPath) (a : Atom) (rest : List Atom) → assuming_all (assuming s a) rest ≡ assuming_all s (a ∷ rest)
 all_more s a rest = λ i. record { counter = s.counter; steps = s.steps; registers = s.registers; variables = s.variables; assumptions = append_assoc s.assumptions (a ∷ []) rest i }
 
-module _ {ws bytes : List ℕ} {path : Path} {end : ℕ} {condition : Condition} (y : Fresh ws path condition.atoms) where
-  pub assume_none : condition.atoms ≡ 0 → AllAssumed ws ws path bytes end condition path
-  assume_none n = record {
-    inside = y.inside;
-    is = λ atoms next e. all_none (path_of ws path) ∙ ap (assuming_all (path_of ws path)) (no_atoms bytes end register_count condition.at n e);
-    table = same_refl table_base (place path.top) ws;
-    grows = omega arith;
-    few = omega arith;
-    more = omega arith;
-    counter = refl;
-    steps = refl;
-    variables = refl;
-  }
+-- so many atoms are assumed, and what comes of all is what comes of those that are left
+pub record Passed (ws us bytes : List ℕ) (path now : Path) (end : ℕ) (over : Source) (condition : Condition) (passed at : ℕ) : Type 0 where
+  pub fresh : Fresh us now (condition.atoms - passed)
+  pub source : OverRegisters now bytes end over
+  pub rest : {vs : List ℕ} {r : Path} → AllAssumed us vs now bytes end (record { at = at; atoms = condition.atoms - passed }) r → AllAssumed ws vs path bytes end condition r
 
-  pub assume_unread : {us : List ℕ} {over : Source} {e : ReadError} → condition.atoms ≢ 0 → OverRegisters path bytes end over → length us ≡ length ws → AtomGrown ws us over.end path.top (Err e) → Err e ≡ atom_read ws over condition.at
-      → AllAssumed ws us path bytes end condition path
-  assume_unread n o l g a = record {
-    inside = path_kept g.kept y.inside l;
-    is = λ atoms next e. absurd (not_mapped _ _ (a ∙ source_atom o ws condition.at) (first_atom bytes end register_count condition.atoms n e).one);
-    table = same_within table_base (place path.top) (omega arith) (omega arith) g.kept;
-    grows = omega arith;
-    few = omega arith;
-    more = omega arith;
-    counter = refl;
-    steps = refl;
-    variables = refl;
-  }
+module _ {ws bytes : List ℕ} {path : Path} {end : ℕ} {over : Source} {condition : Condition} where
+  module _ {us : List ℕ} {now : Path} {passed at : ℕ} (y : Passed ws us bytes path now end over condition passed at) where
+    -- the path is answered as it is
+    ended : {vs : List ℕ} → Same 0 (place now.top) us vs → length vs ≡ length us
+        → ((atoms : List Atom) (next : ℕ) → atoms_at bytes end register_count (condition.atoms - passed) at ≡ Ok (atoms, next) → path_of vs now ≡ assuming_all (path_of us now) atoms) → AllAssumed ws vs path bytes end condition now
+    ended s l is = y.rest (record {
+      inside = path_kept s y.fresh.inside l;
+      is = is;
+      table = same_within table_base (place now.top) (omega arith) (omega arith) s;
+      grows = omega arith;
+      few = omega arith;
+      more = omega arith;
+      counter = refl;
+      steps = refl;
+      variables = refl;
+    })
 
--- the atom that is read
-module _ {ws us bytes : List ℕ} {path m : Path} {end at n : ℕ} {x : AtomParsed} (y : Fresh ws path n) (found : AtomFound ws us bytes path end at x) (e : m ≡ raised_to path x.top) where
-  pub raised_in : PathIn us m
-  raised_in = subst (PathIn us) (sym e) found.above.inside
+    pub all_passed : condition.atoms ≤ passed → AllAssumed ws us path bytes end condition now
+    all_passed h = ended (same_refl 0 (place now.top) us) refl (λ atoms next e. all_none (path_of us now) ∙ ap (assuming_all (path_of us now)) (no_atoms bytes end register_count at (omega arith) e))
 
-  module _ {vs : List ℕ} {more : Path} (z : Assumed us vs m (atom_in us x.atom) more) where
-    before : path_of us m ≡ path_of ws path
-    before = ap (path_of us) e ∙ path_same found.above.kept y.inside
+    module _ {vs : List ℕ} (h : passed < condition.atoms) (l : length vs ≡ length us) where
+      pub atom_unread : {e : ReadError} → AtomGrown us vs over.end now.top (Err e) → Err e ≡ atom_read us over at → AllAssumed ws vs path bytes end condition now
+      atom_unread g a = ended g.kept l (λ atoms next e. absurd (not_mapped _ _ (a ∙ source_atom y.source us at) (first_atom bytes end register_count at h e).1))
 
-    -- the path with the first atom assumed
-    one : path_of vs more ≡ assuming (path_of ws path) (atom_in us x.atom)
-    one = z.is ∙ ap (λ s. assuming s (atom_in us x.atom)) before
+      -- the atom that is read
+      module _ {m : Path} {x : AtomParsed} (g : AtomGrown us vs over.end now.top (Ok x)) (a : Ok (atom_in vs x.atom, x.next) ≡ atom_read us over at) (e : m ≡ raised_to now x.top) where
+        found : AtomFound us vs bytes now end at x
+        found = atom_found y.fresh.inside l y.source g a
 
-    top_is : more.top ≡ x.top
-    top_is = ap (λ (p : Path). p.top) z.form ∙ ap (λ (p : Path). p.top) e
+        pub raised_in : PathIn vs m
+        raised_in = subst (PathIn vs) (sym e) found.above.inside
 
-    one_more : more.assumptions ≡ path.assumptions + 1
-    one_more = ap (λ (p : Path). p.assumptions) z.form ∙ ap (λ (p : Path). p.assumptions + 1) e
+        module _ {xs : List ℕ} {more : Path} (z : Assumed vs xs m (atom_in vs x.atom) more) where
+          -- the path with the atom assumed
+          one : path_of xs more ≡ assuming (path_of us now) (atom_in vs x.atom)
+          one = z.is ∙ ap (λ s. assuming s (atom_in vs x.atom)) (ap (path_of vs) e ∙ path_same found.above.kept y.fresh.inside)
 
-    first_table : Same table_base (place path.top) ws vs
-    first_table =
-        let top : m.top ≡ x.top = ap (λ (p : Path). p.top) e in
-        same_trans (same_within table_base (place path.top) (omega arith) (omega arith) found.above.kept) (same_within table_base (place path.top) (omega arith) (omega (arith, found.above.grows)) z.table)
+          form : more ≡ assumed_path (raised_to now x.top)
+          form = z.form ∙ ap assumed_path e
 
-    pub assume_asks : n ≢ 0 → length vs ≡ length ws → Fresh vs more (n - 1)
-    assume_asks some l = record {
-      inside = z.inside;
-      own = ap (λ (p : ModelPath). p.registers) one ∙ y.own;
-      space = record { words = omega (arith, y.space.words); fits = omega (arith, y.space.fits, top_is, found.above.few) };
-      few = omega (arith, y.few, one_more);
-    }
+          top_is : more.top ≡ x.top
+          top_is = ap (λ (p : Path). p.top) form
 
-    pub assume_more : {xs : List ℕ} {over : Source} {p : Path} → n ≢ 0 → OverRegisters path bytes end over → Ok (atom_in us x.atom, x.next) ≡ atom_read ws over at → AllAssumed vs xs more bytes end (record { at = x.next; atoms = n - 1 }) p
-        → AllAssumed ws xs path bytes end (record { at = at; atoms = n }) p
-    assume_more {xs} {p = p} some o a w = record {
-      inside = w.inside;
-      is = λ atoms last h.
-          let f = first_atom bytes end register_count n some h in
-          let pair : ◌≡◌ {A = Atom × ℕ} (f.first, f.after) (atom_in us x.atom, x.next) = same_value (sym f.one ∙ sym (a ∙ source_atom o ws at ∙ own_atom y.inside y.own bytes end at)) in
-          w.is f.rest last (subst (λ (v : Atom × ℕ). atoms_at bytes end register_count (n - 1) v.1 ≡ Ok (f.rest, last)) pair f.others)
-          ∙ ap (λ s. assuming_all s f.rest) one
-          ∙ all_more (path_of ws path) (atom_in us x.atom) f.rest
-          ∙ ap (assuming_all (path_of ws path)) (ap (λ v. v.0 ∷ f.rest) (sym pair) ∙ f.all);
-      table = same_trans first_table (same_within table_base (place path.top) (omega arith) (omega (arith, top_is, found.above.grows)) w.table);
-      grows = omega (arith, w.grows, top_is, found.above.grows);
-      few = omega (arith, w.few, top_is, found.above.few);
-      more = omega (arith, w.more, one_more);
-      counter = w.counter ∙ ap (λ (s : ModelPath). s.counter) one;
-      steps = w.steps ∙ ap (λ (s : ModelPath). s.steps) one;
-      variables = w.variables ∙ ap (λ (s : ModelPath). s.variables) one;
-    }
+          one_more : more.assumptions ≡ now.assumptions + 1
+          one_more = ap (λ (p : Path). p.assumptions) form
+
+          first_table : Same table_base (place now.top) us xs
+          first_table =
+              let top : m.top ≡ x.top = ap (λ (p : Path). p.top) e in
+              same_trans (same_within table_base (place now.top) (omega arith) (omega arith) found.above.kept) (same_within table_base (place now.top) (omega arith) (omega (arith, found.above.grows)) z.table)
+
+          atom_then : {zs : List ℕ} {p : Path} → AllAssumed xs zs more bytes end (record { at = x.next; atoms = condition.atoms - (passed + 1) }) p → AllAssumed us zs now bytes end (record { at = at; atoms = condition.atoms - passed }) p
+          atom_then w = record {
+            inside = w.inside;
+            is = λ atoms last i.
+                let f = after_atom bytes end register_count at h i (sym (a ∙ source_atom y.source us at ∙ own_atom y.fresh.inside y.fresh.own bytes end at)) in
+                w.is f.rest last f.later
+                ∙ ap (λ s. assuming_all s f.rest) one
+                ∙ all_more (path_of us now) (atom_in vs x.atom) f.rest
+                ∙ ap (assuming_all (path_of us now)) f.all;
+            table = same_trans first_table (same_within table_base (place now.top) (omega arith) (omega (arith, top_is, found.above.grows)) w.table);
+            grows = omega (arith, w.grows, top_is, found.above.grows);
+            few = omega (arith, w.few, top_is, found.above.few);
+            more = omega (arith, w.more, one_more);
+            counter = w.counter ∙ ap (λ (s : ModelPath). s.counter) one;
+            steps = w.steps ∙ ap (λ (s : ModelPath). s.steps) one;
+            variables = w.variables ∙ ap (λ (s : ModelPath). s.variables) one;
+          }
+
+          pub atom_passed : length xs ≡ length vs → Passed ws xs bytes path more end over condition (passed + 1) x.next
+          atom_passed i = record {
+            fresh = record {
+              inside = z.inside;
+              own = ap (λ (p : ModelPath). p.registers) one ∙ y.fresh.own;
+              space = record { words = omega (arith, y.fresh.space.words); fits = omega (arith, y.fresh.space.fits, top_is, found.above.few) };
+              few = omega (arith, y.fresh.few, one_more);
+            };
+            source = record { bytes_are = y.source.bytes_are; end_is = y.source.end_is; limit_is = y.source.limit_is; registers_are = y.source.registers_are ∙ sym (ap (λ (p : Path). p.registers) form) };
+            rest = λ w. y.rest (atom_then w);
+          }
 
 -- ---- blocks
 module _ {us : List ℕ} {index : ℕ} {first : Path} (s : Started us index first) where

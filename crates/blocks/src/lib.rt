@@ -17,7 +17,7 @@ use paths::Path;
 use policy::Condition;
 use rule_reader::REGISTER_NODES;
 
-// Where a block starts, and the node of its credit.
+// A path of a block, and the node of the block's credit.
 #[derive(Clone, Copy)]
 pub struct Block {
     pub path: Path,
@@ -66,24 +66,21 @@ fn start(ws: &mut [u32], index: usize) -> Path
 }
 
 // The path with a condition's atoms assumed besides, which stand in `bytes`.
-fn assume(bytes: &[u8], end: usize, condition: Condition, ws: &mut [u32], path: Path) -> Path
+fn assume(bytes: &[u8], end: usize, condition: Condition, ws: &mut [u32], mut path: Path) -> Path
     requires end_in_bounds { end ≤ length bytes.now }
     requires fresh { Fresh ws.old path condition.atoms }
     ensures { AllAssumed ws.old ws.new path bytes.now end condition result }
 {
-    if condition.atoms == 0 {
-        return path;
-    }
     let source = path.source(bytes, end);
-    let Ok(read) = atom_reader::atom(&source, ws, condition.at, path.top) else {
-        return path;
-    };
-    let more = assuming(ws, path.raised(read.top), read.atom);
-    let rest = Condition {
-        at: read.next,
-        atoms: condition.atoms - 1,
-    };
-    assume(bytes, end, rest, ws, more)
+    let mut at = condition.at;
+    for _ in 0..condition.atoms {
+        let Ok(read) = atom_reader::atom(&source, ws, at, path.top) else {
+            return path;
+        };
+        path = assuming(ws, path.raised(read.top), read.atom);
+        at = read.next;
+    }
+    path
 }
 
 // The block at instruction 0: a condition is assumed, and the credit is a constant.

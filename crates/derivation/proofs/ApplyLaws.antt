@@ -30,7 +30,7 @@ use Rattle.claims.specs.Parts.{claim_of, ClaimBelow}
 use Rattle.model_laws.specs.Bounded.{AtomBounded}
 use Rattle.claims.specs.Plan.{listed as premises_listed, premises_of, plan_of, asks, Planned}
 use Rattle.claims.specs.Rules.{rule_in}
-use Rattle.rule_reader.specs.Opening.{Opening, OpenedGrown}
+use Rattle.rule_reader.specs.Opening.{OpenedGrown}
 use Rattle.derivation.specs.Deriving.{Judged, Prepared, Plannable, Derivable, applied, Applies}
 use Rattle.claims.specs.declared.Claim.{Claim}
 use Rattle.claims.specs.declared.Claim.TheVariants.{Atom as AtomClaim, Readable, Writable}
@@ -81,17 +81,14 @@ every_listed P us [] e k d h = absurd (omega arith)
 every_listed P us (x ∷ xs) e zero d h = every_head e
 every_listed P us (x ∷ xs) e (suc k) d h = every_listed P us xs (every_tail e) k d (omega arith)
 
+-- a rule that does not fit, by what is answered for it
+pub unfit : (m : Result (Unit {0}) Misfit) {f e : Refusal} → map_err (λ _. f) m ≡ Err e → (m ≡ Err misfit) × (e ≡ f)
+unfolding map_err
+unfit (Err x) h = (refl, cc)
+unfit (Ok u) h = let z : ◌≡◌ {A = ℕ} 0 1 = cc in absurd (omega arith)
+
 -- ---- what the callees ask
 module _ {ws : List ℕ} {regions : List Region} {scope : Scope} {top : ℕ} {claim : Claim} (y : Derivable ws regions scope 1 top claim) where
-  pub opening_of : Opening ws scope.variables top
-  opening_of = record {
-    formed = y.prepared.formed;
-    space = record { words = y.space.words; fits = omega (arith, y.space.fits) };
-    above = y.prepared.above;
-    registers = y.prepared.registers;
-    most = omega (arith, y.prepared.most);
-  }
-
   module _ (bytes : List ℕ) (at : ℕ) {us : List ℕ} where
     pub applies_refused : {r : Result Opened Refusal} {f : Refusal} → Err f ≡ rule_at bytes scope.variables at → OpenedGrown ws us top r → Applies bytes regions ws us scope top claim at (Err f)
     unfolding applied

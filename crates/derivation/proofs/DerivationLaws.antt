@@ -18,6 +18,7 @@ use Rattle.model.specs.Derivation.{rule_at, derive_all, derive}
 use Rattle.model.specs.declared.Refusal.{Refusal}
 use Rattle.model.specs.declared.Refusal.TheVariants.{UnfitRule, DeepDerivation}
 use Rattle.model.specs.declared.Region.{Region}
+use Rattle.model.proofs.Results.{then_same, then_then}
 use Rattle.model_laws.specs.Bounded.{ClaimBounded}
 use Rattle.workspace.specs.Layout.{Same}
 use Rattle.nodes.specs.Atoms.{atom_in}
@@ -36,17 +37,6 @@ use Rattle.model_laws.proofs.Steps.{stops, goes_on}
 use Rattle.derivation.proofs.ApplyLaws.{prepared_grown, prepared_kept, judged_kept, claim_kept}
 
 -- ---- the definition, by one rule and its premises
-module _ {E A B C : Type 0} where
-  then_then : (r : Result A E) (f : A → Result B E) (h : B → Result C E) → ((r >>= f) >>= h) ≡ (r >>= λ a. f a >>= h)
-  unfolding ◌>>=◌
-  then_then (Err e) f h = refl
-  then_then (Ok a) f h = refl
-
-then_same : {E A B : Type 0} (r : Result A E) (f h : A → Result B E) → ((a : A) → f a ≡ h a) → (r >>= f) ≡ (r >>= h)
-unfolding ◌>>=◌
-then_same (Err e) f h k = refl
-then_same (Ok a) f h k = k a
-
 module _ (bytes : List ℕ) (policy : Policy) (g : Goal) where
   -- derivations of so many levels, one after the other
   abbrev derives : (levels : ℕ) → List Atom → (p : ℕ) → Result ℕ Refusal
@@ -60,7 +50,7 @@ module _ (bytes : List ℕ) (policy : Policy) (g : Goal) where
       let plan : Rule × ℕ → Result (List Atom × ℕ) Refusal = λ x. asked x >>= λ atoms. Ok (atoms, x.1) in
       let next : List Atom × ℕ → Result ℕ Refusal = λ s. derives levels s.0 s.1 in
       let one : ((r >>= plan) >>= next) ≡ (r >>= λ x. plan x >>= next) = then_then r plan next in
-      let two : (r >>= λ x. plan x >>= next) ≡ (r >>= λ x. asked x >>= λ atoms. derives levels atoms x.1) = then_same r _ _ (λ x. then_then (asked x) (λ atoms. Ok (atoms, x.1)) next) in
+      let two : (r >>= λ x. plan x >>= next) ≡ (r >>= λ x. asked x >>= λ atoms. derives levels atoms x.1) = then_same r (λ x. then_then (asked x) (λ atoms. Ok (atoms, x.1)) next) in
       one ∙ two
 
   unroll : (levels : ℕ) (c : Claimed) (at : ℕ) → (levels ≡ 0 → ⊥) → (applied bytes policy g c at >>= λ s. derives (levels - 1) s.0 s.1) ≡ derive bytes policy g levels c at
@@ -131,16 +121,6 @@ module _ {bytes : List ℕ} {regions : List Region} {vs us : List ℕ} {scope : 
     }
 
 -- ---- the whole derivation
--- what one rule asks
-pub derivable_one : {ws : List ℕ} {regions : List Region} {scope : Scope} {levels top : ℕ} {claim : Claim} → Derivable ws regions scope levels top claim → (levels ≡ 0 → ⊥) → Derivable ws regions scope 1 top claim
-derivable_one y d = record {
-  prepared = y.prepared;
-  regions_fit = y.regions_fit;
-  space = record { words = y.space.words; fits = omega (arith, y.space.fits) };
-  below = y.below;
-  bounded = y.bounded;
-}
-
 module _ {bytes : List ℕ} {regions : List Region} {ws : List ℕ} {scope : Scope} {levels top : ℕ} {claim : Claim} {at : ℕ} (y : Derivable ws regions scope levels top claim) where
   pub too_deep : levels ≡ 0 → Derives bytes regions ws ws scope levels top claim at (Err (DeepDerivation at))
   unfolding derive

@@ -94,9 +94,7 @@ fn apply(
 {
     let opened = rule_reader::read_rule(grounds.bytes, ws, scope.variables, plan.top, at)?;
     plan.top = opened.top;
-    let Ok(()) = planned(grounds, scope, ws, opened.rule, claim, plan) else {
-        return Err(Refusal::UnfitRule(at));
-    };
+    planned(grounds, scope, ws, opened.rule, claim, plan).map_err(|_| Refusal::UnfitRule(at))?;
     Ok(opened.next)
 }
 

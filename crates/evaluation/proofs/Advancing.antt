@@ -9,6 +9,7 @@ use Rattle.model.specs.Routine.{Routine}
 use Rattle.model.specs.Goals.{Move, assign, move}
 use Rattle.model.specs.declared.Instruction.{Instruction}
 use Rattle.decoding.specs.Decoding.{Formed}
+use Rattle.model.specs.declared.Refusal.{Refusal}
 use Rattle.refusals.specs.declared.Refused.{Refused}
 use Rattle.setting.specs.declared.Setting.{Setting}
 use Rattle.setting.specs.Setting.{Stands}
@@ -17,7 +18,7 @@ use Rattle.goals.specs.declared.Progress.{Progress}
 use Rattle.paths.specs.Walking.{path_of}
 use Rattle.paths.specs.declared.Path.{Path}
 use Rattle.moves.specs.declared.Moved.{Moved}
-use Rattle.moves.specs.Moves.{MoveJudged, Moves, Assigns}
+use Rattle.moves.specs.Moves.{MoveJudged, Moves, Assigns, going_on}
 use Rattle.evaluation.specs.Walks.{Advances}
 
 -- an instruction's fields, once its kind is known
@@ -35,12 +36,8 @@ module _ {ws us : List ℕ} {setting : Setting} {credit : Term} {path : Path} (i
   }
 
   -- an assignment
-  pub assigns : {d : ℕ} {t : Term} → Reached setting.tables.routine.bytes.now p → ((policy : Policy) (routine : Routine) → assign (path_of ws path) d t ≡ move policy routine credit (path_of ws path) instruction)
-      → Assigns ws us path d t p r → Advances ws us setting credit path instruction p r
-  assigns h e a =
-      let m = a.moves setting.tables.routine.bytes.now credit h in
-      record {
-        judged = λ policy routine s. subst (λ (x : Move). MoveJudged setting.tables.routine.bytes.now policy routine credit us x p r) (e policy routine) (m.judged policy routine tt);
-        kept = m.kept;
-        leads = m.leads;
-      }
+  pub assigns : {vs : List ℕ} {d : ℕ} {t : Term} {o q : Result Path Refusal} → Reached setting.tables.routine.bytes.now p → ((policy : Policy) (routine : Routine) → assign (path_of ws path) d t ≡ move policy routine credit (path_of ws path) instruction)
+      → Assigns ws vs path d t q → us ≡ vs → o ≡ q → r ≡ going_on p o → Advances ws us setting credit path instruction p r
+  assigns {d = d} {t} {o} h e a words same is =
+      let b : Assigns ws us path d t o = rw (words, same) a in
+      advances (λ policy routine s. tt {0}) e (rw is (b.moves setting.tables.routine.bytes.now credit p h))

@@ -212,10 +212,6 @@ module _ {us : List ℕ} {setting : Setting} {p : Progress} where
   entry_then t a = record { judged = λ policy routine s. trace_both (t.judged policy routine s) (a.judged policy routine s); cleared = a.cleared; reached = a.reached }
 
 -- ---- the answer
--- where the proof starts, it has been read to within the package
-pub start_reached : (setting : Setting) {at : ℕ} → at ≡ proof_start setting.tables.routine.header → Reached setting.tables.routine.bytes.now (record { at = at; goals = 0 })
-start_reached setting e = record { within = omega (arith, e, setting.tables.routine.fits.whole); counted = omega arith }
-
 module _ {us : List ℕ} {setting : Setting} {at : ℕ} (e : at ≡ proof_start setting.tables.routine.header) where
   judged_whole : {r : Result Progress Refused} → TraceJudged us setting trace_of (record { at = at; goals = 0 }) r → (policy : Policy) (routine : Routine) → Stands setting policy routine
       → verdict_after setting.tables.routine.bytes.now policy r finish ≡ judge setting.tables.routine.bytes.now policy (trace_of policy routine) routine.proof 0

@@ -1,7 +1,7 @@
 -- Laws of the walk along a path, one for each way out. Assumes nothing.
 use mathlib.Core.Path.{◌≡◌, sym, subst, ◌∙◌}
 use mathlib.Core.List.{List}
-use Prim.Native.Nat.{ℕ, ◌-◌, ◌<◌}
+use Prim.Native.Nat.{ℕ, ◌+◌, ◌-◌, ◌<◌, ◌≤◌}
 use native.Mathlib.Omega.{arith}
 use lib.ListN.{length, get_or}
 use Rattle.std.specs.Prelude.{Option, None, Some, IfOk}
@@ -26,7 +26,8 @@ use Rattle.refusals.specs.declared.Refused.{Refused}
 use Rattle.setting.specs.declared.Setting.{Setting}
 use Rattle.setting.specs.Setting.{Stands}
 use Rattle.setting.proofs.Standing.{code_long, tables_stand}
-use Rattle.goals.specs.Judging.{JudgesTrace}
+use Rattle.goals.specs.Judging.{Reached, JudgesTrace}
+use Rattle.blocks.specs.declared.Block.{Block}
 use Rattle.goals.specs.declared.Progress.{Progress}
 use Rattle.paths.specs.Walking.{path_of, NodeIn, Kept}
 use Rattle.paths.specs.declared.Path.{Path}
@@ -140,3 +141,55 @@ module _ {ws : List ℕ} {setting : Setting} {path : Path} (credit : ℕ) {left 
             low = same_trans (arrived_low b) w.low;
             reached = w.reached;
           }
+
+-- ---- the walk as a loop
+-- k instructions are run, and what comes of the rest comes of the whole
+pub record Walked (start ws : List ℕ) (setting : Setting) (left : ℕ) (first block : Block) (before p : Progress) (k : ℕ) : Type 0 where
+  pub room : RoomFor ws block.path (left - k)
+  pub credit_in : NodeIn ws block.path block.credit
+  pub reached : Reached setting.tables.routine.bytes.now p
+  pub counted : block.path.counter + (left - k) ≡ setting.tables.routine.header.instructions
+  pub rest : (vs : List ℕ) (r : Result Progress Refused) → Walks ws vs setting (term_at ws block.credit) (left - k) block.path p r → Walks start vs setting (term_at start first.credit) left first.path before r
+
+pub none_walked : {ws : List ℕ} {setting : Setting} {left : ℕ} {block : Block} {p : Progress} → RoomFor ws block.path left → NodeIn ws block.path block.credit → Reached setting.tables.routine.bytes.now p → block.path.counter + left ≡ setting.tables.routine.header.instructions → Walked ws ws setting left block block p p 0
+none_walked {left = left} g n h e =
+    let same : left - 0 ≡ left = omega arith in
+    record { room = rw same g; credit_in = n; reached = h; counted = omega (arith, e); rest = λ vs r w. rw same at w }
+
+module _ {start ws : List ℕ} {setting : Setting} {left : ℕ} {first block : Block} {before p : Progress} {k : ℕ} (w : Walked start ws setting left first block before p k) where
+  pub all_walked : left ≤ k → Walks start ws setting (term_at start first.credit) left first.path before (Err (record { refusal = PastLast setting.tables.routine.header.instructions; goals = p.goals }))
+  all_walked h = w.rest ws _ (walk_done block.credit (omega arith))
+
+  module _ (h : k < left) where
+    some_left : 0 < left - k
+    some_left = omega arith
+
+    module _ {us : List ℕ} {x : Instruction} (f : Fetched setting block.path.counter x) where
+      pub next_refused : {y : Refused} → Advances ws us setting (term_at ws block.credit) block.path x p (Err y) → Walks start us setting (term_at start first.credit) left first.path before (Err y)
+      next_refused a = w.rest us _ (walk_refuses block.credit some_left f a)
+
+      pub next_ended : {q : Progress} → Advances ws us setting (term_at ws block.credit) block.path x p (Ok (Ended q)) → Walks start us setting (term_at start first.credit) left first.path before (Ok q)
+      next_ended a = w.rest us _ (walk_ends block.credit some_left f a)
+
+      -- the path goes on
+      module _ {after : Path} {q : Progress} (a : Advances ws us setting (term_at ws block.credit) block.path x p (Ok (On after q))) (long : length us ≡ length ws) where
+        pub next_credit : NodeIn us after block.credit
+        next_credit = after_credit block.credit some_left f w.room w.credit_in a long
+
+        module _ {vs : List ℕ} where
+          pub next_arrives : {j : Progress} → Arrives us vs setting.tables (term_at us block.credit) after q (Ok (Some j)) → Walks start vs setting (term_at start first.credit) left first.path before (Ok j)
+          next_arrives b = w.rest vs _ (walk_arrives block.credit some_left f w.room w.credit_in a long b)
+
+          pub next_stops : {y : Refused} → Arrives us vs setting.tables (term_at us block.credit) after q (Err y) → Walks start vs setting (term_at start first.credit) left first.path before (Err y)
+          next_stops b = w.rest vs _ (walk_stops block.credit some_left f w.room w.credit_in a long b)
+
+          pub next_walked : Arrives us vs setting.tables (term_at us block.credit) after q (Ok None) → length vs ≡ length us → Walked start vs setting left first (record { path = after; credit = block.credit }) before q (k + 1)
+          next_walked b longer =
+              let fewer : left - (k + 1) ≡ left - k - 1 = omega arith in
+              record {
+                room = rw fewer (walk_room block.credit some_left f w.room w.credit_in a long b longer);
+                credit_in = walk_credit block.credit some_left f w.room w.credit_in a long b;
+                reached = a.leads.1;
+                counted = omega (arith, w.counted, a.leads.0.counter);
+                rest = λ xs r v. w.rest xs r (walk_goes block.credit some_left f w.room w.credit_in a long b (rw fewer at v));
+              }

@@ -22,16 +22,13 @@ fn entry(setting: &Setting, ws: &mut [u32], progress: Progress) -> Result<Progre
         setting.policy.limit,
         ws,
     );
-    let path = block.path;
-    let credit = block.credit;
-    match jumps::arrive(&setting.tables, ws, credit, path, progress)? {
+    match jumps::arrive(&setting.tables, ws, block, progress)? {
         Some(after) => Ok(after),
         None => walks::walk(
             setting,
             ws,
-            credit,
+            block,
             setting.tables.routine.header.instructions,
-            path,
             progress,
         ),
     }
@@ -53,7 +50,7 @@ fn annotation(
     let end = setting.tables.routine.proof_start();
     let block = blocks::annotation_block(bytes, end, annotated, ws);
     let left = setting.tables.routine.header.instructions - annotated.index;
-    walks::walk(setting, ws, block.credit, left, block.path, progress)
+    walks::walk(setting, ws, block, left, progress)
 }
 
 // The blocks at the annotations, in order.

@@ -1,14 +1,11 @@
 -- The laws of `expression_at`, `atom_at` and `atoms_at`, one for each way out of the code. Assumes nothing.
 use Prim.Native.Nat.{ℕ, suc, ◌+◌, ◌-◌, ◌≤◌, ◌<◌, max}
-use mathlib.Core.Bool.{true, false}
 use mathlib.Core.Path.{◌≡◌, refl, ap, ◌∙◌}
 use mathlib.Core.List.{List, ◌∷◌}
 use mathlib.Core.Option.{Option, none, some}
 use native.Mathlib.Omega.{arith}
 use lib.ListN.{get_or, get_elem?}
-use Rattle.model.specs.Result.{Result, Err, Ok, ◌>>=◌, found, misfit, map_ok}
-use Rattle.std.specs.Result.{is_err}
-use Rattle.model.specs.declared.Misfit.{Misfit}
+use Rattle.model.specs.Result.{Result, Err, Ok, ◌>>=◌, found, map_ok, map_err}
 use Rattle.model.specs.declared.ReadError.{ReadError}
 use Rattle.model.specs.declared.ReadError.TheVariants.{Missing, Fault}
 use Rattle.model.specs.Expression.{comparisons, most_nodes, Nodes, nodes_at, expression_at, atom_at, atoms_at}
@@ -42,17 +39,11 @@ module _ {A : Type 0} where
   same_end f (Err e) = refl
   same_end f (Ok y) = refl
 
--- what is looked for is there or not, by the answer's case
-module _ {A : Type 0} where
-  not_found : (x : Option A) → is_err (found x misfit) ≡ true → x ≡ none
-  unfolding found
-  not_found none h = refl
-  not_found (some a) h = absurd (cc)
-
-  is_found : (x : Option A) → is_err (found x misfit) ≡ false → (a : A) × (x ≡ some a)
-  unfolding found
-  is_found none h = absurd (cc)
-  is_found (some a) h = (a, refl)
+-- what is looked for and is not there is the error that stands for it
+pub fault_found : {A E F : Type 0} (x : Option A) (m : E) (e : F) {r : Result A F} → r ≡ map_err (λ _. e) (found x m) → r ≡ found x e
+unfolding found map_err
+fault_found none m e h = h
+fault_found (some a) m e h = h
 
 -- ---- an expression
 
@@ -87,19 +78,20 @@ module _ (bytes : List ℕ) (end limit at : ℕ) where
   unfolding atom_at ◌>>=◌
   from_kind h = rw (byte_there bytes end at h, atom_at)
 
-  module _ (here : at < end) (known : Result Comparison Misfit) (is : known ≡ found (get_elem? comparisons (get_or bytes at 0)) misfit) where
-    pub atom_tag : is_err known ≡ true → Err (Fault at) ≡ ends (atom_at bytes end limit at)
-    unfolding ◌>>=◌ ends found
-    atom_tag t = rw (← from_kind here, not_found (get_elem? comparisons (get_or bytes at 0)) (rw is at t))
+  module _ (here : at < end) {known : Result Comparison ReadError} (is : known ≡ found (get_elem? comparisons (get_or bytes at 0)) (Fault at)) where
+    -- the atom from the comparison that is known on
+    from_known : (known >>= λ kind. expression_at bytes end limit (at + 1) >>= λ y. expression_at bytes end limit y.1 >>= λ z. Ok (record { kind = kind; left = y.0; right = z.0 }, z.1)) ≡ atom_at bytes end limit at
+    from_known = rw is (from_kind here)
 
-    module _ (n : is_err known ≡ false) where
-      a_kind : (kind : Comparison) × (get_elem? comparisons (get_or bytes at 0) ≡ some kind)
-      a_kind = is_found (get_elem? comparisons (get_or bytes at 0)) (rw is at n)
+    pub atom_tag : (e : ReadError) → known ≡ Err e → Err e ≡ ends (atom_at bytes end limit at)
+    unfolding ◌>>=◌ ends
+    atom_tag e stops = rw (← from_known, stops) refl
 
+    module _ (kind : Comparison) (there : known ≡ Ok kind) where
       -- the atom from its first expression on
-      from_first : (expression_at bytes end limit (at + 1) >>= λ y. expression_at bytes end limit y.1 >>= λ z. Ok (record { kind = a_kind.0; left = y.0; right = z.0 }, z.1)) ≡ atom_at bytes end limit at
-      unfolding found ◌>>=◌
-      from_first = rw a_kind.1 at (from_kind here)
+      from_first : (expression_at bytes end limit (at + 1) >>= λ y. expression_at bytes end limit y.1 >>= λ z. Ok (record { kind = kind; left = y.0; right = z.0 }, z.1)) ≡ atom_at bytes end limit at
+      unfolding ◌>>=◌
+      from_first = rw there at from_known
 
       pub atom_stops : (e : ReadError) → Err e ≡ ends (expression_at bytes end limit (at + 1)) → Err e ≡ ends (atom_at bytes end limit at)
       atom_stops e first = rw (← from_first) (still_stops (expression_at bytes end limit (at + 1)) _ e first)
@@ -108,40 +100,34 @@ module _ (bytes : List ℕ) (end limit at : ℕ) where
       unfolding ◌>>=◌
       atom_both q first second s =
           let v = read_next (expression_at bytes end limit (at + 1)) q first in
-          rw (← from_first, v.1) (s ∙ same_end (λ u. record { kind = a_kind.0; left = v.0; right = u }) (expression_at bytes end limit q))
+          rw (← from_first, v.1) (s ∙ same_end (λ u. record { kind = kind; left = v.0; right = u }) (expression_at bytes end limit q))
 
 -- ---- atoms
 
 -- the invariant: where the whole run ends is where the run from here ends
 pub record Going (bytes : List ℕ) (end limit count at read next : ℕ) : Type 0 where
-  pub few : read ≤ count
   pub rest : ends (atoms_at bytes end limit (count - read) next) ≡ ends (atoms_at bytes end limit count at)
   pub inside : next ≤ max at end
 
-module _ (bytes : List ℕ) (end limit count at : ℕ) where
-  pub going_start : Going bytes end limit count at 0 at
-  going_start = let e : count - 0 ≡ count = omega arith in record { few = omega arith; rest = rw e; inside = omega arith }
+module _ (bytes : List ℕ) (end limit count at read next : ℕ) (G : Going bytes end limit count at read next) where
+  pub atoms_read : count ≤ read → Ok next ≡ ends (atoms_at bytes end limit count at)
+  unfolding atoms_at ends
+  atoms_read h = let z : count - read ≡ 0 = omega arith in rw z at G.rest
 
-  module _ (read next : ℕ) (G : Going bytes end limit count at read next) where
-    pub atoms_read : count ≤ read → Ok next ≡ ends (atoms_at bytes end limit count at)
-    unfolding atoms_at ends
-    atoms_read h = let z : count - read ≡ 0 = omega arith in rw z at G.rest
+  module _ (more : read < count) where
+    -- the run from its first atom on
+    from_atom : (atom_at bytes end limit next >>= λ y. atoms_at bytes end limit (count - (read + 1)) y.1 >>= λ z. Ok (y.0 ∷ z.0, z.1)) ≡ atoms_at bytes end limit (count - read) next
+    unfolding atoms_at
+    from_atom = let s : suc (count - (read + 1)) ≡ count - read = omega arith in ap (λ n. atoms_at bytes end limit n next) s
 
-    module _ (more : read < count) where
-      -- the run from its first atom on
-      from_atom : (atom_at bytes end limit next >>= λ y. atoms_at bytes end limit (count - (read + 1)) y.1 >>= λ z. Ok (y.0 ∷ z.0, z.1)) ≡ atoms_at bytes end limit (count - read) next
-      unfolding atoms_at
-      from_atom = let s : suc (count - (read + 1)) ≡ count - read = omega arith in ap (λ n. atoms_at bytes end limit n next) s
+    pub atoms_stop : (e : ReadError) → Err e ≡ ends (atom_at bytes end limit next) → Err e ≡ ends (atoms_at bytes end limit count at)
+    atoms_stop e one = rw (← G.rest, ← from_atom) (still_stops (atom_at bytes end limit next) _ e one)
 
-      pub atoms_stop : (e : ReadError) → Err e ≡ ends (atom_at bytes end limit next) → Err e ≡ ends (atoms_at bytes end limit count at)
-      atoms_stop e one = rw (← G.rest, ← from_atom) (still_stops (atom_at bytes end limit next) _ e one)
-
-      pub going_on : (q : ℕ) → Ok q ≡ ends (atom_at bytes end limit next) → q ≤ end → Going bytes end limit count at (read + 1) q
-      unfolding ◌>>=◌
-      going_on q one i =
-          let v = read_next (atom_at bytes end limit next) q one in
-          record {
-            few = omega arith;
-            rest = rw (← G.rest, ← from_atom, v.1) (same_end (λ u. v.0 ∷ u) (atoms_at bytes end limit (count - (read + 1)) q));
-            inside = omega arith;
-          }
+    pub going_on : (q : ℕ) → Ok q ≡ ends (atom_at bytes end limit next) → q ≤ end → Going bytes end limit count at (read + 1) q
+    unfolding ◌>>=◌
+    going_on q one i =
+        let v = read_next (atom_at bytes end limit next) q one in
+        record {
+          rest = rw (← G.rest, ← from_atom, v.1) (same_end (λ u. v.0 ∷ u) (atoms_at bytes end limit (count - (read + 1)) q));
+          inside = omega arith;
+        }

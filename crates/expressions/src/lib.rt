@@ -10,16 +10,13 @@ ghost use Rattle.expressions.specs.Reading.{ends};
 use limits::MOST_NODES;
 use model::{Comparison, ReadError};
 
-// The nodes that an expression may have.
-const NODES: usize = MOST_NODES as usize;
-
 // Where the expression at `at`, of at most as many nodes as the limit says, ends.
 pub fn expression(bytes: &[u8], end: usize, limit: usize, at: usize) -> Result<usize, ReadError>
     requires { end ≤ length bytes.now }
     ensures ends { result ≡ ends (expression_at bytes.now end limit at) }
     ensures inside { IfOk result (λ next. next ≤ end) }
 {
-    let scanned = scanning::nodes(bytes, end, limit, at, NODES)?;
+    let scanned = scanning::nodes(bytes, end, limit, at, MOST_NODES)?;
     Ok(scanned.next)
 }
 
@@ -32,9 +29,7 @@ pub fn atom(bytes: &[u8], end: usize, limit: usize, at: usize) -> Result<usize, 
     if end <= at {
         return Err(ReadError::Missing);
     }
-    if Comparison::try_from(bytes[at]).is_err() {
-        return Err(ReadError::Fault(at));
-    }
+    Comparison::try_from(bytes[at]).map_err(|_| ReadError::Fault(at))?;
     let next = expression(bytes, end, limit, at + 1)?;
     expression(bytes, end, limit, next)
 }

@@ -7,9 +7,6 @@ ghost use Rattle.expressions.specs.Scanning.{scanned_of, then_operand, Within};
 use limits::MOST_COUNT;
 use model::ReadError;
 
-// The count of a shift is at most this.
-const COUNT: u8 = MOST_COUNT as u8;
-
 // How far the nodes of an expression are scanned: the next position, and how many nodes are left there.
 #[derive(Clone, Copy)]
 pub struct Scanned {
@@ -51,7 +48,7 @@ fn count(bytes: &[u8], end: usize, at: usize, left: usize) -> Result<Scanned, Re
     if end <= place {
         return Err(ReadError::Missing);
     }
-    if COUNT < bytes[place] {
+    if MOST_COUNT < u32::from(bytes[place]) {
         return Err(ReadError::Fault(place));
     }
     Ok(Scanned {

@@ -2,14 +2,15 @@
 use mathlib.Core.Path.{◌≡◌, refl, ap, ◌∙◌}
 use mathlib.Core.Logic.{◌≢◌}
 use mathlib.Core.Bool.{Bool, true, not, ◌&&◌}
-use mathlib.Core.List.{List}
+use mathlib.Core.List.{List, ◌++◌}
 use Prim.Native.Nat.{ℕ, suc, ◌+◌, ◌^◌, ◌≤◌, ◌<◌, max}
 use native.Mathlib.Numerals.{add-one}
 use native.Mathlib.Omega.{arith}
 use native.Mathlib.Decide.{ℕ_discrete}
-use lib.ListN.{length, get_or, set, length-set}
+use lib.ListN.{length, get_or, set, take, drop, length-set, length-append, get_or-append}
 use lib.Seq.{get_or-set_same, get_or-set_other}
 use lib.Dec.{eqb}
+use Rattle.std.proofs.lemmas.List.{take-append-drop, set-append_left}
 use Rattle.model.specs.Term.{Term, constant, variable, sum, difference}
 use Rattle.model.specs.Linear.{variable_bound}
 use Rattle.model.proofs.Terms.{and_left, and_right}
@@ -141,20 +142,23 @@ module _ {ws us : List ℕ} {i b : ℕ} {n : Bool} (h : Tree ws i b) where
         rw (node_built h.formed.shaped e)
         (accumulated_both n (difference (term_at ws l) (term_at ws r)) f g (λ k d. word_difference k (term_at ws l) (term_at ws r) n (get_or ws k 0) (f.area k d) (rw (term_kept f (pair_parts h Difference e).right.formed) at (g.area k d))))
 
--- ---- emptied
-pub taken_none : (ws : List ℕ) → Taken ws ws 0 true
+-- ---- emptied, word by word: us is the front of the words, and rest what stands after it
+pub taken_none : (n : ℕ) (ws : List ℕ) → Taken ws (take n ws ++ drop n ws) 0 true
 unfolding all_zero
-taken_none ws = record { is = refl; zeros = λ k h. omega arith; above = same_refl 0 (length ws) ws; long = refl }
+taken_none n ws = rw (take-append-drop n ws) (record { is = refl; zeros = λ k h. omega arith; above = same_refl 0 (length ws) ws; long = refl })
 
-pub taken_more : {ws us vs : List ℕ} {n x : ℕ} {r : Bool} → Taken ws us n r → n < length us → x ≡ get_or us n 0 → vs ≡ set us n 0 → Taken ws vs (n + 1) (r && eqb x 0)
+pub taken_more : {ws : List ℕ} (us rest : List ℕ) {n x y : ℕ} {r : Bool} → Taken ws (us ++ rest) n r → n < length us → x ≡ get_or us n 0 → y ≡ 0 → Taken ws (set us n y ++ rest) (n + 1) (r && eqb x 0)
 unfolding all_zero
-taken_more {ws} {us} {vs} {n} {x} {r} t h e s = record {
-  is = rw (add-one n, e, t.is, t.above.word n (omega arith) (omega (arith, t.long)));
-  zeros = λ k l. rw s (go k l (ℕ_discrete k n));
-  above = record { word = λ k l m. rw s (get_or-set_other us n k 0 0 (omega arith) ∙ t.above.word k (omega arith) m) };
-  long = ap length s ∙ simp length-set t.long;
-}
+taken_more {ws} us rest {n} {x} {y} {r} t h e z = rw (z, ← set-append_left us rest n 0 h) (record {
+  is = rw (add-one n, e, t.is, ← t.above.word n (omega arith) (rw t.long at inside), get_or-append us rest 0 n h);
+  zeros = λ k l. go k l (ℕ_discrete k n);
+  above = record { word = λ k l m. get_or-set_other (us ++ rest) n k 0 0 (omega arith) ∙ t.above.word k (omega arith) m };
+  long = simp length-set t.long;
+})
   where
-    go : (k : ℕ) → k < n + 1 → Dec (k ≡ n) → get_or (set us n 0) k 0 ≡ 0
-    go k l (yes m) = rw m (get_or-set_same us n 0 0 h)
-    go k l (no m) = get_or-set_other us n k 0 0 m ∙ t.zeros k (omega arith)
+    inside : n < length (us ++ rest)
+    inside = simp length-append (omega arith)
+
+    go : (k : ℕ) → k < n + 1 → Dec (k ≡ n) → get_or (set (us ++ rest) n 0) k 0 ≡ 0
+    go k l (yes m) = rw m (get_or-set_same (us ++ rest) n 0 0 inside)
+    go k l (no m) = get_or-set_other (us ++ rest) n k 0 0 m ∙ t.zeros k (omega arith)

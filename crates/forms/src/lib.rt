@@ -49,8 +49,8 @@ fn empty_coefficients(ws: &mut [u32], variables: usize) -> bool
     ensures { Taken ws.old ws.new variables result }
 {
     let mut zero = true;
-    for v in 0..variables {
-        zero &= mem::take(&mut ws[v]) == 0;
+    for coefficient in &mut ws[..variables] {
+        zero &= mem::take(coefficient) == 0;
     }
     zero
 }

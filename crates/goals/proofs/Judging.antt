@@ -61,12 +61,6 @@ module _ {bytes : List ℕ} {policy : Policy} {p : Progress} where
   unfolding append
   goals_end {gs} a = record { says = λ t. ap (λ u. judge bytes policy u p.at p.goals) (append_goals gs finish t) ∙ a.says t }
 
-  pub goals_stopped : {gs : List Goal} (u : Trace) {x : Refused} → Judges bytes policy gs p (Err x) → JudgesTrace bytes policy (goals gs u) p (Err x)
-  goals_stopped {gs} u a = record { says = λ t. ap (λ v. judge bytes policy v p.at p.goals) (append_goals gs u t) ∙ a.says (append u t) }
-
-  pub goals_then : {gs : List Goal} {u : Trace} {q : Progress} {r : Result Progress Refused} → Judges bytes policy gs p (Ok q) → JudgesTrace bytes policy u q r → JudgesTrace bytes policy (goals gs u) p r
-  goals_then {gs} {u} a b = record { says = λ t. ap (λ v. judge bytes policy v p.at p.goals) (append_goals gs u t) ∙ a.says (append u t) ∙ b.says t }
-
   -- ---- one trace after another
   pub trace_stopped : {u : Trace} (v : Trace) {x : Refused} → JudgesTrace bytes policy u p (Err x) → JudgesTrace bytes policy (append u v) p (Err x)
   trace_stopped {u} v a = record { says = λ t. ap (λ w. judge bytes policy w p.at p.goals) (append_append u v t) ∙ a.says (append v t) }
@@ -82,7 +76,3 @@ module _ {bytes : List ℕ} {policy : Policy} {p : Progress} where
   pub trace_end : JudgesTrace bytes policy finish p (Ok p)
   unfolding append
   trace_end = record { says = λ t. refl }
-
-  pub trace_refused : (x : Refusal) → JudgesTrace bytes policy (refuse x) p (Err (record { refusal = x; goals = p.goals }))
-  unfolding append judge
-  trace_refused x = record { says = λ t. refl }

@@ -53,13 +53,12 @@ pub fn goal(
         assumptions: path.assumptions,
         variables: path.variables,
     };
-    match derivation::check_goal(grounds, scope, ws, path.top, made, progress.at) {
-        Ok(at) => Ok(Progress {
-            at,
-            goals: progress.goals + 1,
-        }),
-        Err(refusal) => Err(progress.refused(refusal)),
-    }
+    let derived = derivation::check_goal(grounds, scope, ws, path.top, made, progress.at);
+    let at = derived.map_err(|refusal| progress.refused(refusal))?;
+    Ok(Progress {
+        at,
+        goals: progress.goals + 1,
+    })
 }
 
 // The goals of a condition's atoms, which stand in `bytes`, over the path's registers. Check 6 or 11 has read them before, so that they can be
@@ -77,18 +76,15 @@ pub fn atoms(
     requires going { Going ws.old grounds.now.bytes.now atom_room path progress }
     ensures { AtomsJudged ws.old ws.new grounds.now.bytes.now grounds.now.regions.now path progress result bytes.now end condition }
 {
-    if condition.atoms == 0 {
-        return Ok(progress);
-    }
     let source = path.source(bytes, end);
-    let Ok(read) = atom_reader::atom(&source, ws, condition.at, path.top) else {
-        return Err(progress.refused(Refusal::AnnotationBytes(condition.at)));
-    };
-    let claim = Claim::Atom(read.atom);
-    let after = goal(grounds, ws, path.raised(read.top), claim, progress)?;
-    let rest = Condition {
-        at: read.next,
-        atoms: condition.atoms - 1,
-    };
-    atoms(grounds, bytes, end, rest, ws, path, after)
+    let mut at = condition.at;
+    let mut after = progress;
+    for _ in 0..condition.atoms {
+        let found = atom_reader::atom(&source, ws, at, path.top);
+        let read = found.map_err(|_| after.refused(Refusal::AnnotationBytes(at)))?;
+        let claim = Claim::Atom(read.atom);
+        after = goal(grounds, ws, path.raised(read.top), claim, after)?;
+        at = read.next;
+    }
+    Ok(after)
 }

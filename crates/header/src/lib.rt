@@ -23,7 +23,7 @@ pub fn read_header(bytes: &[u8]) -> Result<Header, Refusal>
         return Err(Refusal::BadHeader(size));
     }
     let instructions = fields::half(bytes, 0);
-    if !((1 <= instructions) & (instructions <= MOST_INSTRUCTIONS)) {
+    if !(1..=MOST_INSTRUCTIONS).contains(&instructions) {
         return Err(Refusal::BadHeader(0));
     }
     let annotations = fields::half(bytes, 2);

@@ -8,6 +8,7 @@ use lib.ListN.{length, get_or}
 use lib.Dec.{eqb}
 use Rattle.std.specs.Prelude.{Option, None, Some}
 use Rattle.std.specs.List.{position_from}
+use Rattle.std.specs.Option.{ok_or}
 use Rattle.model.specs.Term.{Term}
 use Rattle.model.specs.Atom.{Atom}
 use Rattle.model.specs.Result.{Result, Ok, Err}
@@ -32,9 +33,8 @@ use Rattle.annotations.proofs.Facts.{Laid, laid_at}
 use Rattle.setting.specs.declared.Tables.{Tables}
 use Rattle.setting.specs.Setting.{TablesStand}
 use Rattle.setting.proofs.Standing.{placed_in, found_inside, found_there, found_nowhere}
-use Rattle.goals.specs.Judging.{Reached, Judges}
+use Rattle.goals.specs.Judging.{Judges}
 use Rattle.paths.specs.Walking.{path_of, NodeIn, PathIn, stepped_to, Kept}
-use Rattle.goals.specs.Room.{goal_room, Going}
 use Rattle.arrivals.specs.Arriving.{ArrivalJudged, ReturnJudged}
 use Rattle.blocks.specs.Starting.{assumed_path, Assumed}
 use Rattle.paths.specs.declared.Path.{Path}
@@ -50,6 +50,16 @@ use Rattle.moves.proofs.Moving.{move_on, move_stopped, move_refused}
 use Rattle.jumps.proofs.Walking.{move_ended, end_stopped}
 use Rattle.paths.proofs.Kept.{kept_same, kept_then, node_equal, node_held, node_wider, path_equal}
 use Rattle.moves.proofs.PathLaws.{path_stepped, room_kept}
+
+-- ---- what is there or not, by what `ok_or` makes of it
+module _ {A E : Type 0} where
+  pub is_there : (o : Option A) (e : E) {a : A} → ok_or o e ≡ Ok a → o ≡ Some a
+  is_there None e h = absurd (cc)
+  is_there (Some b) e h = cc
+
+  pub not_there : (o : Option A) {e x : E} → ok_or o e ≡ Err x → (o ≡ None) × (x ≡ e)
+  not_there None h = (refl, cc)
+  not_there (Some b) h = absurd (cc)
 
 -- ---- arrivals
 module _ (tables : Tables) (index : ℕ) {found : Option ℕ} (e : found ≡ position_from (λ (a : Annotated). eqb a.index index) 0 tables.annotations.now) {k : ℕ} (f : found ≡ Some k) (there : Annotated) where
@@ -93,15 +103,6 @@ module _ {ws : List ℕ} {tables : Tables} {path : Path} {p : Progress} {credit 
     arrival_stopped j = record { judged = arrived_as j; kept = j.left.kept; reached = tt }
 
 -- ---- jumps
--- what the goals of an arrival of a path ask
-pub there_going : {ws bytes : List ℕ} {path there : Path} {p : Progress} {target : ℕ} → RoomFor ws path 1 → Reached bytes p → there ≡ stepped_to path target
-    → Going ws bytes goal_room there p
-there_going {target = target} g h e = rw e (record {
-  inside = path_stepped g.path_in target (omega (arith, g.run));
-  space = record { words = g.words; fits = omega (arith, g.nodes) };
-  reached = h;
-})
-
 -- the moves of a jump, of a branch and of a return
 module _ (credit : Term) (s : ModelPath) where
   abbrev jumped : (target : ℕ) → Policy → Routine → Move

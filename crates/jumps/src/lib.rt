@@ -13,12 +13,12 @@ ghost use Rattle.moves.specs.Moves.{RoomFor, Moves};
 ghost use Rattle.jumps.specs.Jumps.{opposite_of, MovesBy, Returning, Branches, Arrives};
 
 use arrivals;
+use blocks::Block;
 use derivation::Grounds;
 use goals::Progress;
 use model::{Comparison, Refusal};
 use moves::Moved;
 use nodes::Atom;
-use paths::Path;
 use policy::Condition;
 use refusals::Refused;
 use setting::Tables;
@@ -28,25 +28,21 @@ use targets::search;
 pub fn arrive(
     tables: &Tables,
     ws: &mut [u32],
-    credit: usize,
-    path: Path,
+    block: Block,
     progress: Progress,
 ) -> Result<Option<Progress>, Refused>
-    requires going { Going ws.old tables.now.routine.bytes.now goal_room path progress }
-    requires credit_in { NodeIn ws.old path credit }
-    requires counter_in { path.counter ≤ most_instructions }
-    ensures { Arrives ws.old ws.new tables.now (term_at ws.old credit) path progress result }
+    requires going { Going ws.old tables.now.routine.bytes.now goal_room block.path progress }
+    requires credit_in { NodeIn ws.old block.path block.credit }
+    requires counter_in { block.path.counter ≤ most_instructions }
+    ensures { Arrives ws.old ws.new tables.now (term_at ws.old block.credit) block.path progress result }
 {
-    let Some(k) = search::position(tables.annotations, path.counter) else {
+    let Some(k) = search::position(tables.annotations, block.path.counter) else {
         return Ok(None);
     };
     let at = tables.annotations[k].at;
     let end = tables.routine.proof_start();
-    let grounds = Grounds {
-        bytes: tables.routine.bytes,
-        regions: tables.regions,
-    };
-    let after = arrivals::arrival(&grounds, end, at, ws, path, credit, progress)?;
+    let grounds = tables.grounds();
+    let after = arrivals::arrival(&grounds, end, at, ws, block, progress)?;
     Ok(Some(after))
 }
 
@@ -54,22 +50,23 @@ pub fn arrive(
 pub fn jump_to(
     tables: &Tables,
     ws: &mut [u32],
-    credit: usize,
-    path: Path,
+    block: Block,
     target: u32,
     progress: Progress,
 ) -> Result<Moved, Refused>
-    requires room_for { RoomFor ws.old path 1 }
-    requires credit_in { NodeIn ws.old path credit }
+    requires room_for { RoomFor ws.old block.path 1 }
+    requires credit_in { NodeIn ws.old block.path block.credit }
     requires reached { Reached tables.now.routine.bytes.now progress }
     requires target_in { target ≤ most_instructions }
-    ensures { MovesBy ws.old ws.new tables.now (term_at ws.old credit) (λ policy routine. jump policy routine (term_at ws.old credit) (path_of ws.old path) (path_to (path_of ws.old path) target) ends) path progress result }
+    ensures { MovesBy ws.old ws.new tables.now (term_at ws.old block.credit) (λ policy routine. jump policy routine (term_at ws.old block.credit) (path_of ws.old block.path) (path_to (path_of ws.old block.path) target) ends) block.path progress result }
 {
-    let there = path.stepped(target as usize);
-    let Some(after) = arrive(tables, ws, credit, there, progress)? else {
-        // Check 12 has seen that the target is annotated.
-        return Err(progress.refused(Refusal::Unannotated(path.counter)));
+    let there = Block {
+        path: block.path.stepped(target as usize),
+        ..block
     };
+    let found = arrive(tables, ws, there, progress)?;
+    // Check 12 has seen that the target is annotated.
+    let after = found.ok_or(progress.refused(Refusal::Unannotated(block.path.counter)))?;
     Ok(Moved::Ended(after))
 }
 
@@ -90,28 +87,30 @@ fn opposite(claimed: Atom) -> Atom
 pub fn branch_to(
     tables: &Tables,
     ws: &mut [u32],
-    credit: usize,
-    path: Path,
+    block: Block,
     kind: Comparison,
     a: u8,
     b: u8,
     target: u32,
     progress: Progress,
 ) -> Result<Moved, Refused>
-    requires room_for { RoomFor ws.old path 1 }
-    requires credit_in { NodeIn ws.old path credit }
+    requires room_for { RoomFor ws.old block.path 1 }
+    requires credit_in { NodeIn ws.old block.path block.credit }
     requires reached { Reached tables.now.routine.bytes.now progress }
     requires target_in { target ≤ most_instructions }
     requires registers { (a < register_count) × (b < register_count) }
-    ensures { Branches ws.old ws.new tables.now (term_at ws.old credit) path kind a b target progress result }
+    ensures { Branches ws.old ws.new tables.now (term_at ws.old block.credit) block.path kind a b target progress result }
 {
+    let path = block.path;
     let taken = Atom::new(kind, path.node(a), path.node(b));
     let stepped = path.stepped(target as usize);
-    let there = blocks::assuming(ws, stepped, taken);
-    let Some(after) = arrive(tables, ws, credit, there, progress)? else {
-        // Check 12 has seen that the target is annotated.
-        return Err(progress.refused(Refusal::Unannotated(path.counter)));
+    let there = Block {
+        path: blocks::assuming(ws, stepped, taken),
+        ..block
     };
+    let found = arrive(tables, ws, there, progress)?;
+    // Check 12 has seen that the target is annotated.
+    let after = found.ok_or(progress.refused(Refusal::Unannotated(path.counter)))?;
     let next = path.stepped(path.counter + 1);
     let on = blocks::assuming(ws, next, opposite(taken));
     Ok(Moved::On(on, after))
@@ -123,23 +122,14 @@ pub fn return_from(
     conditions: &[u8],
     postcondition: Condition,
     ws: &mut [u32],
-    credit: usize,
-    path: Path,
+    block: Block,
     progress: Progress,
 ) -> Result<Moved, Refused>
-    requires room_for { RoomFor ws.old path 1 }
-    requires credit_in { NodeIn ws.old path credit }
+    requires room_for { RoomFor ws.old block.path 1 }
+    requires credit_in { NodeIn ws.old block.path block.credit }
     requires reached { Reached grounds.now.bytes.now progress }
-    ensures { Moves ws.old ws.new grounds.now.bytes.now (Returning conditions.now postcondition grounds.now.regions.now) (term_at ws.old credit) (λ policy routine. ends (returning (path_of ws.old path) (term_at ws.old credit) policy.postcondition)) path progress result }
+    ensures { Moves ws.old ws.new grounds.now.bytes.now (Returning conditions.now postcondition grounds.now.regions.now) (term_at ws.old block.credit) (λ policy routine. ends (returning (path_of ws.old block.path) (term_at ws.old block.credit) policy.postcondition)) block.path progress result }
 {
-    let after = arrivals::returning(
-        grounds,
-        conditions,
-        postcondition,
-        ws,
-        path,
-        credit,
-        progress,
-    )?;
+    let after = arrivals::returning(grounds, conditions, postcondition, ws, block, progress)?;
     Ok(Moved::Ended(after))
 }

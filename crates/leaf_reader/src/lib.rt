@@ -18,7 +18,7 @@ pub use sources::Source;
 pub struct Parsed {
     pub node: usize,
     pub next: usize,
-    pub left: u32,
+    pub left: usize,
     pub top: usize,
 }
 
@@ -28,7 +28,7 @@ pub fn read_constant(
     end: usize,
     ws: &mut [u32],
     at: usize,
-    left: u32,
+    left: usize,
     top: usize,
 ) -> Result<Parsed, ReadError>
     requires at_in_bounds { (at < end) × (end ≤ length bytes.now) }
@@ -55,7 +55,7 @@ pub fn read_variable(
     source: &Source,
     ws: &mut [u32],
     at: usize,
-    left: u32,
+    left: usize,
     top: usize,
 ) -> Result<Parsed, ReadError>
     requires at_in_bounds { at < source.now.end }

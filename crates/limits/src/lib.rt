@@ -24,7 +24,7 @@ pub const MOST_MEMORY: u32 = 16384;
 pub const REGISTERS: usize = 16;
 
 // most_nodes: nodes of an expression.
-pub const MOST_NODES: u32 = 31;
+pub const MOST_NODES: usize = 31;
 
 // most_count: bits that a shift may shift by.
 pub const MOST_COUNT: u32 = 31;

@@ -10,7 +10,6 @@ use lib.Dec.{eqb}
 use borrow.Author.Tests.{eqb-true}
 use Rattle.model.specs.Term.{Term}
 use Rattle.model.specs.Linear.{same_form}
-use Rattle.model.proofs.Terms.{and_left}
 use Rattle.workspace.specs.Layout.{Same, constant_word, area_words, hint_base}
 use Rattle.nodes.specs.Table.{high, marks_at, term_at, plain}
 use Rattle.workspace.proofs.Frames.{same_within}
@@ -18,7 +17,7 @@ use Rattle.nodes.proofs.Table.{same_terms}
 use Rattle.forms.specs.Area.{Tree, Accumulated, Comparable, Emptied}
 use Rattle.weights.specs.Weights.{Reckoned}
 use Rattle.forms.proofs.Forms.{zeros_same_form, zero_beyond, same_form_refl, plain_coefficient, clash}
-use Rattle.forms.proofs.Laws.{term_kept, tree_kept, bounded_more, above_both}
+use Rattle.forms.proofs.Laws.{term_kept, tree_kept, above_both}
 
 -- the same node stands for both
 pub same_twins : {ws : List ℕ} {i j n : ℕ} {r : Bool} → Comparable ws i j n → r ≡ eqb (high (marks_at ws i)) (high (marks_at ws j)) → r ≡ true → true ≡ same_form (term_at ws i) (term_at ws j)
@@ -26,19 +25,8 @@ same_twins {ws} {i} {j} c e h =
     let t : term_at ws i ≡ term_at ws j = same_terms c.left.formed.shaped c.right.formed.shaped (eqb-true (high (marks_at ws i)) (high (marks_at ws j)) (sym e ∙ h)) in
     rw (t, same_form_refl (term_at ws j))
 
--- every variable below the constant's word may stand in the terms
-pub comparable_most : {ws : List ℕ} {i j n : ℕ} → Comparable ws i j n → Comparable ws i j constant_word
-comparable_most c = record { few = omega arith; left = bounded_more constant_word c.few c.left; right = bounded_more constant_word c.few c.right; cleared = c.cleared }
-
--- the first of three that hold
-pub first_holds : (a b c : Bool) → (a && b && c) ≡ true → a ≡ true
-first_holds a b c h = and_left a b (and_left (a && b) c h)
-
 -- the terms walked as trees
 module _ {ws : List ℕ} {i j : ℕ} (c : Comparable ws i j constant_word) (h : (plain (term_at ws i) ≡ true) × (plain (term_at ws j) ≡ true)) where
-  pub first_tree : Tree ws i constant_word
-  first_tree = record { formed = c.left.formed; within = c.left.within; plain_term = h.0 }
-
   pub second_tree : {us : List ℕ} {n : Bool} {t : Term} → Accumulated ws us n t → Tree us j constant_word
   second_tree a = tree_kept a (record { formed = c.right.formed; within = c.right.within; plain_term = h.1 })
 

@@ -1,5 +1,5 @@
 // The rules of logic: what each asks of a claim. None makes a new node.
-#![tactic(auto)]
+#![tactic(auto, using(claims::proofs::StepLaws::steps), unfolding(model::specs::Rule::premises, crate::specs::Sides::reflexive_premises, crate::specs::Sides::exchanged_premises, crate::specs::Sides::through_premises, crate::specs::Sides::weakened_premises))]
 
 ghost use Rattle.std.specs.Prelude.{List, ℕ, ◌<◌, ◌≤◌, length};
 ghost use Rattle.model.specs.Result.{Ok};

@@ -20,7 +20,7 @@ fn word(registers: &[u32], r: u8) -> u32
     requires { r < length registers.now }
     ensures { result ≡ get_or registers.now r 0 }
 {
-    registers[r as usize]
+    registers[usize::from(r)]
 }
 
 // words[at] := w, and on to the next instruction.
@@ -37,7 +37,7 @@ fn assign(d: u8, w: u32, counter: usize, registers: &mut [u32]) -> Progress
     requires { (d < length registers.old) × (counter < most_instructions) }
     ensures { (result ≡ Progress.Next (counter + 1)) × (registers.new ≡ set registers.old d w) }
 {
-    put(registers, d as usize, w, counter)
+    put(registers, usize::from(d), w, counter)
 }
 
 // A jump to i if the branch is taken.

@@ -1,5 +1,5 @@
 // The rules of memory: what each asks of a claim. New nodes stand from the table's top on, at most four of them.
-#![tactic(auto)]
+#![tactic(auto, using(claims::proofs::StepLaws::steps, crate::proofs::RegionLaws::places), unfolding(model::specs::Rule::premises, model::specs::Rule::region_premises, model::specs::Rule::readable_of, model::specs::Rule::writable_of))]
 
 ghost use Rattle.nodes.specs.Table.{Formed, Space};
 ghost use Rattle.claims.specs.Parts.{claim_of, ClaimBelow};

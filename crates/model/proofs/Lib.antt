@@ -1,5 +1,6 @@
 pub mod Lists
 pub mod Results
+pub mod Ranges
 pub mod Gives
 pub mod Words
 pub mod Terms

@@ -1,9 +1,9 @@
 -- Laws of computations that give a value or stop: steps in sequence, and what a value says of the steps before it. Assumes nothing.
 use Prim.Native.Nat.{ℕ}
-use mathlib.Core.Path.{◌≡◌, refl}
+use mathlib.Core.Path.{◌≡◌, refl, ap}
 use mathlib.Core.Bool.{Bool, true, false}
 use native.Mathlib.Omega.{arith}
-use Rattle.std.specs.Result.{IsErrAnd}
+use Rattle.std.specs.Result.{MatchResult, IsErrAnd}
 use Rattle.model.specs.Result.{Result, Err, Ok, ◌>>=◌, check, map_err}
 
 module _ {E A B C : Type 0} where
@@ -44,3 +44,14 @@ past_stop f (Ok b) p = cc
 pub stopped : {A E : Type 0} (r : Result A E) (e : E) → IsErrAnd r (λ x. x ≡ e) → r ≡ Err e
 stopped (Err x) e h = rw h
 stopped (Ok a) e h = absurd h
+
+-- an error that a closure turned into another, where the computation is known as n
+module _ {A E F : Type 0} {P : E → F → Type 0} (f : E → F) where
+  turned : (m : Result A E) (r : Result A F) → MatchResult m (λ a. r ≡ Ok a) (λ e. IsErrAnd r (P e)) → ((e : E) (x : F) → P e x → x ≡ f e) → r ≡ map_err f m
+  unfolding map_err
+  turned (Ok a) r e says = e
+  turned (Err e) (Ok a) p says = elim p [ ]
+  turned (Err e) (Err x) p says = ap Err (says e x p)
+
+  pub mapped : (m n : Result A E) (r : Result A F) → m ≡ n → MatchResult m (λ a. r ≡ Ok a) (λ e. IsErrAnd r (P e)) → ((e : E) (x : F) → P e x → x ≡ f e) → r ≡ map_err f n
+  mapped m n r same cases says = rw same at (turned m r cases says)

@@ -2,7 +2,7 @@
 use mathlib.Core.Path.{◌≡◌, refl, sym, ap, ap₂, subst, ◌∙◌}
 use mathlib.Core.Bool.{Bool, true, false}
 use mathlib.Core.List.{List, []}
-use Prim.Native.Nat.{ℕ, suc, ◌+◌, ◌<◌, ◌≤◌}
+use Prim.Native.Nat.{ℕ, ◌+◌, ◌<◌, ◌≤◌}
 use native.Mathlib.Numerals.{add-one}
 use native.Mathlib.Omega.{arith}
 use lib.Dec.{leb}
@@ -11,18 +11,16 @@ use Rattle.model.specs.Result.{Result, Ok, Err}
 use Rattle.model.specs.Term.{Term, constant, shift, size}
 use Rattle.model.specs.Linear.{variable_bound}
 use Rattle.model.specs.Goals.{Path as ModelPath, term_of, onward, path_to, assigning, goes, small_enough, assign, most_term_nodes}
+use Rattle.model.specs.declared.Refusal.{Refusal}
 use Rattle.model.specs.declared.Refusal.TheVariants.{LargeTerm}
 use Rattle.model.specs.Expression.{register_count}
 use Rattle.workspace.specs.Layout.{table_base}
 use Rattle.nodes.specs.declared.Operation.{Operation}
 use Rattle.nodes.specs.declared.Operation.TheVariants.{Sum, Difference, Mask}
-use Rattle.nodes.specs.Table.{operation_of, place, term_at, Formed, Put}
+use Rattle.nodes.specs.Table.{operation_of, place, term_at, Put}
 use Rattle.workspace.proofs.Frames.{same_trans, same_within}
-use Rattle.nodes.proofs.Table.{term_same, formed_less}
+use Rattle.nodes.proofs.Table.{term_same}
 use Rattle.paths.specs.declared.Path.{Path}
-use Rattle.refusals.specs.declared.Refused.{Refused}
-use Rattle.goals.specs.declared.Progress.{Progress}
-use Rattle.moves.specs.declared.Moved.{Moved}
 use Rattle.moves.specs.declared.Moved.TheVariants.{On}
 use Rattle.paths.specs.Walking.{path_of, raised_to, NodeIn, PathIn, stepped_to, written_to, Kept}
 use Rattle.moves.specs.Moves.{RoomFor, Built, Advanced, MoveJudged, assigned_as, Assigns}
@@ -97,12 +95,8 @@ module _ {ws us vs : List ℕ} {path : Path} (w : PathIn ws path) (long : length
         same = same_trans u.kept (same_within 0 (place path.top) (omega arith) (omega arith) v.kept);
       }
 
--- what an assignment asks of a node that was built
-pub built_formed : {ws us : List ℕ} {path : Path} {count node : ℕ} {t : Term} → RoomFor ws path 1 → count ≤ 3 → Built ws us path count node t → (node < 65536) × Formed us (suc node)
-built_formed {node = node} g few b = (omega (arith, g.nodes, b.node_in.below), formed_less (suc node) b.node_in.below b.path_in.prepared.formed)
-
 -- ---- assignments
-module _ {ws us : List ℕ} {path : Path} {d count node : ℕ} {t : Term} (p : Progress) (g : RoomFor ws path 1) (long : length us ≡ length ws) (below : d < register_count) (few : count ≤ 3) (b : Built ws us path count node t) where
+module _ {ws us : List ℕ} {path : Path} {d count node : ℕ} {t : Term} (g : RoomFor ws path 1) (long : length us ≡ length ws) (below : d < register_count) (few : count ≤ 3) (b : Built ws us path count node t) where
   kept : Kept ws us path
   kept = kept_same path g.path_in.prepared.assumed.few b.same
 
@@ -129,32 +123,32 @@ module _ {ws us : List ℕ} {path : Path} {d count node : ℕ} {t : Term} (p : P
     assumptions = omega arith;
   }
 
-  by_size : (small : Bool) → leb (size t) most_term_nodes ≡ small → Assigns ws us path d t p (assigned_as small higher d node p)
+  by_size : (small : Bool) → leb (size t) most_term_nodes ≡ small → Assigns ws us path d t (assigned_as small higher d node)
   unfolding assigned_as assign small_enough
   by_size true e = record {
-    moves = λ bytes credit h. record {
+    moves = λ bytes credit p h. record {
       judged = λ policy routine _. subst (λ m. MoveJudged bytes policy routine credit us m p (Ok (On after p))) (ap (goes []) (sym means) ∙ sym (rw (e, assign))) (move_on judges_none);
       kept = kept;
       leads = (advanced, h);
     };
   }
   by_size false e = record {
-    moves = λ bytes credit h. record {
+    moves = λ bytes credit p h. record {
       judged = λ policy routine _. subst (λ m. MoveJudged bytes policy routine credit us m p (Err (record { refusal = LargeTerm path.counter; goals = p.goals }))) (sym (rw (e, assign))) (move_refused (LargeTerm path.counter));
       kept = kept;
       leads = tt;
     };
   }
 
-  pub built_assigns : {r : Result Moved Refused} {raised : Path} → raised ≡ higher → r ≡ assigned_as (leb (size (term_at us node)) most_term_nodes) raised d node p → Assigns ws us path d t p r
-  built_assigns h e = subst (λ m. Assigns ws us path d t p m) (ap₂ (λ (x : Term) (q : Path). assigned_as (leb (size x) most_term_nodes) q d node p) (sym b.means) (sym h) ∙ sym e) (by_size (leb (size t) most_term_nodes) refl)
+  pub built_assigns : {r : Result Path Refusal} {raised : Path} → raised ≡ higher → r ≡ assigned_as (leb (size (term_at us node)) most_term_nodes) raised d node → Assigns ws us path d t r
+  built_assigns h e = subst (λ m. Assigns ws us path d t m) (ap₂ (λ (x : Term) (q : Path). assigned_as (leb (size x) most_term_nodes) q d node) (sym b.means) (sym h) ∙ sym e) (by_size (leb (size t) most_term_nodes) refl)
 
 -- the two ways out of an assignment
-module _ {b c : Bool} (path : Path) (d node : ℕ) (p : Progress) (e : b ≡ c) where
-  pub assigned_on : {w s : Path} → b ≡ true → w ≡ written_to path d node → s ≡ stepped_to w (path.counter + 1) → Ok (On s p) ≡ assigned_as c path d node p
+module _ {b c : Bool} (path : Path) (d node : ℕ) (e : b ≡ c) where
+  pub assigned_on : {w s : Path} → b ≡ true → w ≡ written_to path d node → s ≡ stepped_to w (path.counter + 1) → Ok s ≡ assigned_as c path d node
   unfolding assigned_as
-  assigned_on h ew es = rw (es, ew) (ap (λ x. assigned_as x path d node p) (sym h ∙ e))
+  assigned_on h ew es = rw (es, ew) (ap (λ x. assigned_as x path d node) (sym h ∙ e))
 
-  pub assigned_not : b ≡ false → Err (record { refusal = LargeTerm path.counter; goals = p.goals }) ≡ assigned_as c path d node p
+  pub assigned_not : b ≡ false → Err (LargeTerm path.counter) ≡ assigned_as c path d node
   unfolding assigned_as
-  assigned_not h = ap (λ x. assigned_as x path d node p) (sym h ∙ e)
+  assigned_not h = ap (λ x. assigned_as x path d node) (sym h ∙ e)

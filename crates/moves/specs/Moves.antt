@@ -9,6 +9,7 @@ use Rattle.model.specs.Routine.{Routine}
 use Rattle.model.specs.Goals.{Path as ModelPath, Trace, append, Move, assign, landing, tracing}
 use Rattle.model.specs.Verdict.{least_workspace, refusing, judge}
 use Rattle.model.specs.declared.Verdict.{Verdict}
+use Rattle.model.specs.declared.Refusal.{Refusal}
 use Rattle.model.specs.declared.Refusal.TheVariants.{LargeTerm}
 use Rattle.workspace.specs.Layout.{most_assumptions, most_table_nodes, Same, most_variables}
 use Rattle.nodes.specs.Table.{term_at, place}
@@ -79,13 +80,18 @@ pub record Moves (ws us bytes : List ℕ) (Where : Policy → Routine → Type 0
   pub leads : Leads us bytes path r
 
 -- register d takes a node where its term is small enough, and else it is refused
-unfoldable pub assigned_as : Bool → Path → (d node : ℕ) → Progress → Result Moved Refused
-assigned_as true path d node p = Ok (On (stepped_to (written_to path d node) (path.counter + 1)) p)
-assigned_as false path d node p = Err (record { refusal = LargeTerm path.counter; goals = p.goals })
+unfoldable pub assigned_as : Bool → Path → (d node : ℕ) → Result Path Refusal
+assigned_as true path d node = Ok (stepped_to (written_to path d node) (path.counter + 1))
+assigned_as false path d node = Err (LargeTerm path.counter)
+
+-- what comes of an assignment, which has no goals: the progress stays
+abbrev pub going_on : Progress → Result Path Refusal → Result Moved Refused
+going_on p (Ok after) = Ok (On after p)
+going_on p (Err x) = Err (record { refusal = x; goals = p.goals })
 
 -- an assignment goes by neither policy, routine nor credit
 abbrev pub Anywhere : Policy → Routine → Type 0
 Anywhere policy routine = Unit {0}
 
-pub record Assigns (ws us : List ℕ) (path : Path) (d : ℕ) (t : Term) (p : Progress) (r : Result Moved Refused) : Type 0 where
-  pub moves : (bytes : List ℕ) (credit : Term) → Reached bytes p → Moves ws us bytes Anywhere credit (λ _ _. assign (path_of ws path) d t) path p r
+pub record Assigns (ws us : List ℕ) (path : Path) (d : ℕ) (t : Term) (r : Result Path Refusal) : Type 0 where
+  pub moves : (bytes : List ℕ) (credit : Term) (p : Progress) → Reached bytes p → Moves ws us bytes Anywhere credit (λ _ _. assign (path_of ws path) d t) path p (going_on p r)

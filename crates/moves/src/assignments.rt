@@ -8,36 +8,32 @@ ghost use Rattle.nodes.specs.Table.{operation_of, term_at, Formed};
 ghost use Rattle.paths.specs.Walking.{path_of};
 ghost use Rattle.moves.specs.Moves.{RoomFor, Built, assigned_as, Assigns};
 
-use crate::Moved;
-use goals::Progress;
 use model::Refusal;
 use nodes::Operation;
 use paths::Path;
-use refusals::Refused;
 
 // Register d takes the term of a node, if that is small enough, and the path goes on; else it is refused at its counter.
-fn assign(ws: &[u32], path: Path, d: u8, node: usize, progress: Progress) -> Result<Moved, Refused>
+fn assign(ws: &[u32], path: Path, d: u8, node: usize) -> Result<Path, Refusal>
     requires register { d < register_count }
     requires may_step { (path.steps < most_instructions) × (path.counter < most_instructions) }
     requires formed { (node < 65536) × Formed ws.now (suc node) }
-    ensures { result ≡ assigned_as (leb (size (term_at ws.now node)) most_term_nodes) path d node progress }
+    ensures { result ≡ assigned_as (leb (size (term_at ws.now node)) most_term_nodes) path d node }
 {
     if !nodes::small(ws, node) {
-        return Err(progress.refused(Refusal::LargeTerm(path.counter)));
+        return Err(Refusal::LargeTerm(path.counter));
     }
-    let after = path.written(d, node).stepped(path.counter + 1);
-    Ok(Moved::On(after, progress))
+    Ok(path.written(d, node).stepped(path.counter + 1))
 }
 
 // d := i
-pub fn set(ws: &mut [u32], path: Path, d: u8, i: u32, progress: Progress) -> Result<Moved, Refused>
+pub fn set(ws: &mut [u32], path: Path, d: u8, i: u32) -> Result<Path, Refusal>
     requires register { d < register_count }
     requires room_for { RoomFor ws.old path 1 }
-    ensures { Assigns ws.old ws.new path d (constant i) progress result }
+    ensures { Assigns ws.old ws.new path d (constant i) result }
 {
     let top = path.top;
     terms::put_constant(ws, top, i);
-    assign(ws, path.raised(top + 1), d, top, progress)
+    assign(ws, path.raised(top + 1), d, top)
 }
 
 // d := a + b, or d := a - b
@@ -48,15 +44,14 @@ pub fn combine(
     d: u8,
     a: u8,
     b: u8,
-    progress: Progress,
-) -> Result<Moved, Refused>
+) -> Result<Path, Refusal>
     requires registers { (d < register_count) × (a < register_count) × (b < register_count) }
     requires room_for { RoomFor ws.old path 1 }
-    ensures { Assigns ws.old ws.new path d (operation_of operation (term_of (path_of ws.old path) a) (term_of (path_of ws.old path) b)) progress result }
+    ensures { Assigns ws.old ws.new path d (operation_of operation (term_of (path_of ws.old path) a) (term_of (path_of ws.old path) b)) result }
 {
     let top = path.top;
     terms::put_pair(ws, top, operation, path.node(a), path.node(b));
-    assign(ws, path.raised(top + 1), d, top, progress)
+    assign(ws, path.raised(top + 1), d, top)
 }
 
 // Puts a constant i and the operation on register a's term and it above the path's top.
@@ -78,32 +73,24 @@ pub fn combine_immediate(
     d: u8,
     a: u8,
     i: u32,
-    progress: Progress,
-) -> Result<Moved, Refused>
+) -> Result<Path, Refusal>
     requires registers { (d < register_count) × (a < register_count) }
     requires room_for { RoomFor ws.old path 1 }
-    ensures { Assigns ws.old ws.new path d (operation_of operation (term_of (path_of ws.old path) a) (constant i)) progress result }
+    ensures { Assigns ws.old ws.new path d (operation_of operation (term_of (path_of ws.old path) a) (constant i)) result }
 {
     let top = path.top;
     put_with(ws, path, operation, a, i);
-    assign(ws, path.raised(top + 2), d, top + 1, progress)
+    assign(ws, path.raised(top + 2), d, top + 1)
 }
 
 // d := a shifted right by i
-pub fn shift(
-    ws: &mut [u32],
-    path: Path,
-    d: u8,
-    a: u8,
-    i: u32,
-    progress: Progress,
-) -> Result<Moved, Refused>
+pub fn shift(ws: &mut [u32], path: Path, d: u8, a: u8, i: u32) -> Result<Path, Refusal>
     requires registers { (d < register_count) × (a < register_count) }
     requires count { i ≤ most_count }
     requires room_for { RoomFor ws.old path 1 }
-    ensures { Assigns ws.old ws.new path d (shift_of i (term_of (path_of ws.old path) a)) progress result }
+    ensures { Assigns ws.old ws.new path d (shift_of i (term_of (path_of ws.old path) a)) result }
 {
     let top = path.top;
     terms::put_shift(ws, top, i, path.node(a));
-    assign(ws, path.raised(top + 1), d, top, progress)
+    assign(ws, path.raised(top + 1), d, top)
 }

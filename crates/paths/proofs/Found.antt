@@ -1,9 +1,11 @@
 -- What the readers' answers say of the path over whose registers they have read. Assumes nothing.
 use mathlib.Core.Path.{◌≡◌, refl, sym, ap, ◌∙◌}
+use mathlib.Core.Bool.{false}
 use mathlib.Core.List.{List, map}
 use Prim.Native.Nat.{ℕ}
 use native.Mathlib.Omega.{arith}
 use lib.ListN.{length}
+use Rattle.std.specs.Result.{MatchResult, is_ok}
 use Rattle.model.specs.Result.{Result, Err, Ok, map_ok}
 use Rattle.model.specs.Term.{Term, substitute}
 use Rattle.model.specs.Atom.{Atom, substitute_atom}
@@ -32,6 +34,15 @@ found_mapped f (Ok a) h = (a, refl, same_value h)
 pub not_mapped : {E A B : Type 0} (f : A → B) (x : Result A E) {e : E} {a : A} → Err e ≡ map_ok f x → x ≡ Ok a → ⊥
 not_mapped f (Err e) h k = let z : ◌≡◌ {A = ℕ} 0 1 = cc in omega arith
 not_mapped f (Ok a) h k = let z : ◌≡◌ {A = ℕ} 0 1 = cc in omega arith
+
+-- a reading whose error becomes another, by what comes of it: Q is what is known where it stops
+pub value_read : {E A : Type 0} (F : Type 0) (Q : E → Type 0) (m : Result A E) {a : A} → MatchResult m (λ b. ◌≡◌ {A = Result A F} (Ok a) (Ok b)) Q → ((e : E) → Q e → ⊥) → m ≡ Ok a
+value_read F Q (Err e) h n = absurd (n e h)
+value_read F Q (Ok b) h n = ap Ok (sym (same_value h))
+
+pub error_read : {E A : Type 0} (m : Result A E) → false ≡ is_ok m → (e : E) × (m ≡ Err e)
+error_read (Err e) h = (e, refl)
+error_read (Ok b) h = absurd (cc)
 
 -- ---- what a source over the registers of a path says
 module _ {path : Path} {bytes : List ℕ} {end : ℕ} {s : Source} (o : OverRegisters path bytes end s) where

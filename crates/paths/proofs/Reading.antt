@@ -1,8 +1,7 @@
 -- What was read, taken apart: atoms, an annotation. Assumes nothing.
-use mathlib.Core.Path.{◌≡◌, refl, sym, ap, ◌∙◌}
-use mathlib.Core.Logic.{◌≢◌}
+use mathlib.Core.Path.{◌≡◌, sym, ap, subst, ◌∙◌}
 use mathlib.Core.List.{List, [], ◌∷◌}
-use Prim.Native.Nat.{ℕ, zero, suc, ◌-◌}
+use Prim.Native.Nat.{ℕ, suc, ◌+◌, ◌-◌, ◌<◌}
 use native.Mathlib.Omega.{arith}
 use Rattle.model.specs.Result.{Result, Ok}
 use Rattle.model.specs.Atom.{Atom}
@@ -19,29 +18,24 @@ module _ (bytes : List ℕ) (end limit : ℕ) where
   unfolding atoms_at
   no_atoms {next = next} at {atoms} n e = ap (λ x. x.0) (same_value (ap (λ m. atoms_at bytes end limit m at) (sym n) ∙ e))
 
-  pub record FirstAtom (number at next : ℕ) (atoms : List Atom) : Type 0 where
-    pub first : Atom
-    pub after : ℕ
+  -- the atom a is read, up to q, and the others from there
+  pub record OneRead (others q next : ℕ) (a : Atom) (atoms : List Atom) : Type 0 where
     pub rest : List Atom
-    pub one : atom_at bytes end limit at ≡ Ok (first, after)
-    pub others : atoms_at bytes end limit (number - 1) after ≡ Ok (rest, next)
-    pub all : first ∷ rest ≡ atoms
+    pub later : atoms_at bytes end limit others q ≡ Ok (rest, next)
+    pub all : a ∷ rest ≡ atoms
 
-  pub first_atom : (number : ℕ) {at next : ℕ} {atoms : List Atom} → number ≢ 0 → atoms_at bytes end limit number at ≡ Ok (atoms, next) → FirstAtom number at next atoms
+  one_read : (others at : ℕ) {next : ℕ} {atoms : List Atom} → atoms_at bytes end limit (suc others) at ≡ Ok (atoms, next) → (x : Atom × ℕ) × (atom_at bytes end limit at ≡ Ok x) × OneRead others x.1 next x.0 atoms
   unfolding atoms_at
-  first_atom zero n e = absurd (n refl)
-  first_atom (suc m) {at} {next} {atoms} n e =
-      let (a, one, then) = bound _ _ e in
-      let (b, others, whole) = bound _ _ then in
-      let pair : ◌≡◌ {A = List Atom × ℕ} (a.0 ∷ b.0, b.1) (atoms, next) = same_value whole in
-      record {
-        first = a.0;
-        after = a.1;
-        rest = b.0;
-        one = one;
-        others = ap (λ k. atoms_at bytes end limit k a.1) (less m) ∙ others ∙ ap (λ x. Ok (b.0, x.1)) pair;
-        all = ap (λ x. x.0) pair;
-      }
-    where
-      less : (k : ℕ) → suc k - 1 ≡ k
-      less k = omega arith
+  one_read others at {next} {atoms} e =
+      let (x, one, then) = bound _ _ e in
+      let (y, later, whole) = bound _ _ then in
+      let pair : ◌≡◌ {A = List Atom × ℕ} (x.0 ∷ y.0, y.1) (atoms, next) = same_value whole in
+      (x, one, record { rest = y.0; later = later ∙ ap (λ z. Ok (y.0, z.1)) pair; all = ap (λ z. z.0) pair })
+
+  -- so many atoms have been read, and others are left
+  module _ (at : ℕ) {passed number next : ℕ} {atoms : List Atom} (h : passed < number) (e : atoms_at bytes end limit (number - passed) at ≡ Ok (atoms, next)) where
+    pub first_atom : (x : Atom × ℕ) × (atom_at bytes end limit at ≡ Ok x) × OneRead (number - (passed + 1)) x.1 next x.0 atoms
+    first_atom = let one_left : number - passed ≡ suc (number - (passed + 1)) = omega arith in one_read (number - (passed + 1)) at (rw one_left at e)
+
+    pub after_atom : {a : Atom} {q : ℕ} → atom_at bytes end limit at ≡ Ok (a, q) → OneRead (number - (passed + 1)) q next a atoms
+    after_atom one = subst (λ (z : Atom × ℕ). OneRead (number - (passed + 1)) z.1 next z.0 atoms) (same_value (sym first_atom.1 ∙ one)) first_atom.2

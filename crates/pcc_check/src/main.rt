@@ -6,15 +6,11 @@ use limits::LEAST_WORKSPACE;
 use std::io;
 
 fn main(rt: HostRuntime) -> io::Result<()> {
-    let mut policy = [0; POLICY];
-    let Some(policy) = console::load(&rt, b"policy.bin", &mut policy) else {
-        return Ok(());
-    };
-    let mut routine = [0; ROUTINE];
-    let Some(routine) = console::load(&rt, b"routine.bin", &mut routine) else {
-        return Ok(());
-    };
-    let mut workspace = [0; LEAST_WORKSPACE];
-    let verdict = loader::check(&mut workspace, policy, routine);
-    println!(rt; "{verdict}")
+    if let Some(policy) = console::load(&rt, b"policy.bin", &mut [0; POLICY])
+        && let Some(routine) = console::load(&rt, b"routine.bin", &mut [0; ROUTINE])
+    {
+        let verdict = loader::check(&mut [0; LEAST_WORKSPACE], policy, routine);
+        println!(rt; "{verdict}")?;
+    }
+    Ok(())
 }

@@ -68,18 +68,12 @@ fn run_start(policy: &[u8], routine: &[u8], start: &[u8]) -> Outcome
 }
 
 fn main(rt: HostRuntime) -> io::Result<()> {
-    let mut policy = [0; POLICY];
-    let Some(policy) = console::load(&rt, b"policy.bin", &mut policy) else {
-        return Ok(());
-    };
-    let mut routine = [0; ROUTINE];
-    let Some(routine) = console::load(&rt, b"routine.bin", &mut routine) else {
-        return Ok(());
-    };
-    let mut start = [0; START];
-    let Some(start) = console::load(&rt, b"start.bin", &mut start) else {
-        return Ok(());
-    };
-    let outcome = run_start(policy, routine, start);
-    println!(rt; "{outcome}")
+    if let Some(policy) = console::load(&rt, b"policy.bin", &mut [0; POLICY])
+        && let Some(routine) = console::load(&rt, b"routine.bin", &mut [0; ROUTINE])
+        && let Some(start) = console::load(&rt, b"start.bin", &mut [0; START])
+    {
+        let outcome = run_start(policy, routine, start);
+        println!(rt; "{outcome}")?;
+    }
+    Ok(())
 }

@@ -12,8 +12,7 @@ use Rattle.model.specs.Policy.{sizes_of, regions_from, read_policy}
 use Rattle.model.specs.declared.Sizes.{Sizes}
 use Rattle.model.specs.declared.Refusal.{Refusal}
 use Rattle.model.specs.declared.Refusal.TheVariants.{PolicyLength}
-use Rattle.policy_regions.specs.declared.Regions.{Regions}
-use Rattle.policy_regions.specs.Regions.{regions_result, Fitting}
+use Rattle.policy_regions.specs.Regions.{Regions, regions_result, Fitting}
 use Rattle.policy.specs.declared.Condition.{Condition}
 use Rattle.policy.specs.Conditions.{conditions_of, conditions_result, BothStand}
 use Rattle.policy.specs.Policy.{policy_of, policy_result, Checked}
@@ -73,7 +72,7 @@ module _ (bytes : List ℕ) where
               → Checked bytes (record { memory = s.memory; limit = s.limit; regions = regions; precondition = pre; postcondition = post })
           checked fit stand = record {
             some_regions = omega (arith, bounds.some_regions, fit.counted);
-            few_regions = regions.few;
+            few_regions = regions.within;
             some_memory = bounds.some_memory;
             small_memory = bounds.small_memory;
             few_precondition = omega (arith, bounds.few_precondition, stand.first);

@@ -4,10 +4,8 @@ use mathlib.Core.Path.{◌≡◌, refl, sym, ap, ◌∙◌}
 use mathlib.Core.Bool.{Bool, true, false, ◌&&◌}
 use mathlib.Core.List.{List, [], ◌∷◌, ◌++◌, append_assoc, append-nil}
 use native.Mathlib.Omega.{arith}
-use native.Mathlib.Numerals.{add-one}
-use lib.ListN.{length, take, set, length-set}
+use lib.ListN.{length, length-append}
 use lib.Dec.{leb}
-use lib.Seq.{take-suc-set}
 use borrow.Author.Tests.{leb-true}
 use Rattle.std.specs.List.{All}
 use Rattle.model.specs.Result.{Result, Err, Ok, ◌>>=◌, check, map_ok}
@@ -16,8 +14,9 @@ use Rattle.model.specs.declared.Region.{Region}
 use Rattle.model.specs.declared.Sizes.{Sizes}
 use Rattle.model.specs.declared.Refusal.{Refusal}
 use Rattle.model.specs.declared.Refusal.TheVariants.{BadRegion}
-use Rattle.policy_regions.specs.Regions.{regions_result, region_read, Fitting}
-use Rattle.policy_regions.specs.declared.Regions.{Regions}
+use Rattle.lists.specs.Lists.{listed}
+use Rattle.lists.proofs.Lists.{length_listed}
+use Rattle.policy_regions.specs.Regions.{Regions, regions_result, region_read, Fitting}
 use Rattle.model.proofs.Results.{then_then, value_then}
 use Rattle.model.proofs.Gives.{Gives, gives, gives_then, gives_check, gives_value}
 use Rattle.model.proofs.Terms.{and_right}
@@ -36,22 +35,22 @@ module _ (bytes : List ℕ) (sizes : Sizes) (j : ℕ) (r : Region) (is : r ≡ r
 unfoldable pub after : List Region → Result (List Region) Refusal → Result (List Region) Refusal
 after front r = map_ok (λ rest. front ++ rest) r
 
--- After j regions: the whole reading is what is in the list so far, and the reading from here.
+-- After j regions: the whole reading is the list so far, and the reading from here.
 pub record Going (bytes : List ℕ) (sizes : Sizes) (list : List Region) (j : ℕ) : Type 0 where
   pub within : j ≤ sizes.regions
   pub few : sizes.regions ≤ most_regions
-  pub long : length list ≡ most_regions
-  pub rest : regions_from bytes sizes sizes.regions 0 ≡ after (take j list) (regions_from bytes sizes (sizes.regions - j) j)
+  pub long : length list ≡ j
+  pub rest : regions_from bytes sizes sizes.regions 0 ≡ after list (regions_from bytes sizes (sizes.regions - j) j)
 
 none_before : (r : Result (List Region) Refusal) → r ≡ after [] r
 unfolding after
 none_before (Err x) = refl
 none_before (Ok rest) = refl
 
-pub begin : (bytes : List ℕ) (sizes : Sizes) (list : List Region) → sizes.regions ≤ most_regions → length list ≡ most_regions → Going bytes sizes list 0
-begin bytes sizes list few long =
+pub begin : (bytes : List ℕ) (sizes : Sizes) (list : List Region) → sizes.regions ≤ most_regions → list ≡ [] → Going bytes sizes list 0
+begin bytes sizes list few none =
     let e : sizes.regions - 0 ≡ sizes.regions = omega arith in
-    record { within = omega arith; few = few; long = long; rest = rw e (none_before (regions_from bytes sizes sizes.regions 0)) }
+    record { within = omega arith; few = few; long = ap length none; rest = rw (none, e) (none_before (regions_from bytes sizes sizes.regions 0)) }
 
 -- one region more, and then the rest
 one_more : (front : List Region) (r : Region) (m : Result (List Region) Refusal) → after front (m >>= (λ rest. Ok (r ∷ rest))) ≡ after (front ++ (r ∷ [])) m
@@ -68,27 +67,24 @@ module _ (bytes : List ℕ) (sizes : Sizes) (list : List Region) (j : ℕ) (g : 
         let left : sizes.regions - j ≡ suc (sizes.regions - (j + 1)) = omega arith in
         rw left (simp (then_then, value_then))
 
-    pub further : (r : Region) → Ok r ≡ region_read bytes sizes j → Going bytes sizes (set list j r) (j + 1)
+    pub further : (r : Region) → Ok r ≡ region_read bytes sizes j → (more : List Region) → more ≡ list ++ r ∷ [] → Going bytes sizes more (j + 1)
     unfolding ◌>>=◌
-    further r e =
-        let front : take (j + 1) (set list j r) ≡ take j list ++ (r ∷ []) = rw (add-one j) (take-suc-set list j r (omega (arith, g.long))) in
-        record {
-          within = omega arith;
-          few = g.few;
-          long = simp length-set g.long;
-          rest = g.rest ∙ rw (← from_here, ← e, front) (one_more (take j list) r _);
-        }
+    further r e more is = rw is (record {
+      within = omega arith;
+      few = g.few;
+      long = simp length-append (omega (arith, g.long));
+      rest = g.rest ∙ rw (← from_here, ← e) (one_more list r _);
+    })
 
     pub stops : (x : Refusal) → Err x ≡ region_read bytes sizes j → regions_result (Err x) ≡ regions_from bytes sizes sizes.regions 0
     unfolding ◌>>=◌ regions_result after
     stops x e = sym (g.rest ∙ rw (← from_here, ← e))
 
-  pub ends : sizes.regions ≤ j → (regions : Regions) → regions.count ≡ sizes.regions → regions.list ≡ list → regions_result (Ok regions) ≡ regions_from bytes sizes sizes.regions 0
-  unfolding regions_from regions_result after
-  ends h regions c l =
-      let e : sizes.regions ≡ j = omega arith in
+  pub ends : sizes.regions ≤ j → Ok list ≡ regions_from bytes sizes sizes.regions 0
+  unfolding regions_from after
+  ends h =
       let z : sizes.regions - j ≡ 0 = omega arith in
-      rw (c, l) (sym (g.rest ∙ rw (z, e) (ap Ok (append-nil (take j list)))))
+      sym (g.rest ∙ rw z (ap Ok (append-nil list)))
 
 -- What holds of the regions that are read: there are so many, and each ends within M.
 one_ends : (memory : ℕ) (r : Region) (rs : List Region) → region_fits memory r ≡ true → All (λ x. x.base + x.size ≤ memory) rs → All (λ x. x.base + x.size ≤ memory) (r ∷ rs)
@@ -104,8 +100,8 @@ all_end bytes s (suc left) j =
     gives_then (all_end bytes s left (j + 1)) λ rs h.
     gives (ap suc h.0, one_ends s.memory _ rs e h.1)
 
-pub fitting : (bytes : List ℕ) (sizes : Sizes) (regions : Regions) → regions.count ≡ sizes.regions → regions_result (Ok regions) ≡ regions_from bytes sizes sizes.regions 0 → Fitting sizes regions
-unfolding regions_result
-fitting bytes sizes regions c e =
+pub fitting : (bytes : List ℕ) (sizes : Sizes) (regions : Regions) → Ok (listed regions) ≡ regions_from bytes sizes sizes.regions 0 → Fitting sizes regions
+fitting bytes sizes regions e =
     let f = gives_value (sym e) (all_end bytes sizes sizes.regions 0) in
-    record { counted = c; whole = f.0 ∙ sym c; ends = f.1 }
+    let n = length_listed regions in
+    record { counted = sym n ∙ f.0; whole = n; ends = f.1 }

@@ -1,16 +1,18 @@
 -- What is read of the regions, in the definitions' terms. Assumes nothing.
-use Rattle.std.specs.Prelude.{ℕ, ◌+◌, ◌≤◌, ◌≡◌, List, length, take, All}
+use Rattle.std.specs.Prelude.{ℕ, ◌+◌, ◌≤◌, ◌≡◌, List, length, All}
 use Rattle.model.specs.Result.{Result, Ok, ◌>>=◌, check, map_ok}
-use Rattle.model.specs.Policy.{region_at, region_fits}
+use Rattle.model.specs.Policy.{most_regions, region_at, region_fits}
 use Rattle.model.specs.declared.Region.{Region}
 use Rattle.model.specs.declared.Sizes.{Sizes}
 use Rattle.model.specs.declared.Refusal.{Refusal}
 use Rattle.model.specs.declared.Refusal.TheVariants.{BadRegion}
-use Rattle.policy_regions.specs.declared.Regions.{Regions}
+use Rattle.lists.specs.declared.Few.{Few}
+-- passed on to users of this module: the regions, without the rest of their memory
+pub use Rattle.lists.specs.Lists.{listed}
 
--- the regions, without the rest of the list
-abbrev pub listed : Regions → List Region
-listed regions = take regions.count regions.list
+-- the regions of a policy
+abbrev pub Regions : Type 0
+Regions = Few Region most_regions
 
 -- the regions read, or why the policy is refused
 unfoldable pub regions_result : Result Regions Refusal → Result (List Region) Refusal

@@ -8,7 +8,6 @@ use lib.ListN.{length, get_or}
 use lib.Dec.{leb, eqb, leb-zero, leb-suc-zero, eqb-suc-zero}
 use borrow.Author.Tests.{le-leb, lt-leb, leb-true}
 use Rattle.std.specs.Ordering.{is_le, nat_cmp}
-use Rattle.std.proofs.lemmas.Bool.Decides.{nat_tests}
 use Rattle.model.specs.Result.{Result, Err, Ok, ◌>>=◌, check, map_err}
 use Rattle.model.specs.Word.{le32}
 use Rattle.model.specs.Atom.{most_atoms}
@@ -18,24 +17,21 @@ use Rattle.model.specs.declared.Sizes.{Sizes}
 use Rattle.model.specs.declared.Refusal.{Refusal}
 use Rattle.model.specs.declared.Refusal.TheVariants.{PolicyLength, PolicySize}
 use Rattle.policy_sizes.specs.Sizes.{in_range, size_byte, memory_field}
+use Rattle.model.proofs.Ranges.{told_at_most}
 use Rattle.model.proofs.Results.{then_then, value_then}
 use Rattle.model.proofs.Gives.{Gives, gives, gives_then, gives_check, gives_any}
 use Rattle.model.proofs.Terms.{and_left, and_right}
 
 -- in_range
 
--- the test of a range, as numbers
-at_most : (a b : ℕ) → is_le (nat_cmp a b) ≡ leb a b
-at_most a b = grind (arith, nat_tests)
-
 module _ (at least most n : ℕ) (within : Bool) (is : within ≡ (is_le (nat_cmp least n) && is_le (nat_cmp n most))) where
   pub inside : within ≡ true → Ok n ≡ in_range at least most n
   unfolding in_range ◌>>=◌ check
-  inside t = rw (← at_most least n, ← at_most n most, ← is, t)
+  inside t = rw (← told_at_most least n most is, t)
 
   pub outside : within ≡ false → Err (PolicySize at) ≡ in_range at least most n
   unfolding in_range ◌>>=◌ check
-  outside t = rw (← at_most least n, ← at_most n most, ← is, t)
+  outside t = rw (← told_at_most least n most is, t)
 
 -- a byte, and a word, that are there or not
 module _ (bytes : List ℕ) (at : ℕ) where

@@ -6,7 +6,6 @@ use native.Mathlib.Omega.{arith}
 use Prim.Native.Nat.{ℕ, suc, ◌+◌, ◌-◌, ◌*◌, ◌≤◌, ◌<◌}
 use lib.ListN.{length, get_or, take, set, length-set}
 use Rattle.std.specs.List.{All}
-use Rattle.std.specs.Result.{MatchResult, IsErrAnd}
 use Rattle.std.proofs.lemmas.List.{take_more_set}
 use Rattle.std.proofs.lemmas.List.Elements.{All-nil, All-push}
 use Rattle.model.specs.Result.{Result, Err, Ok, ◌>>=◌, check, map_err}
@@ -22,16 +21,9 @@ use Rattle.routine.specs.Code.{instruction_at, code_checked}
 use Rattle.model.proofs.Results.{then_then, then_same}
 
 -- ---- one instruction
--- an error that a closure turned into another
-pub mapped : {A E F : Type 0} {P : E → F → Type 0} (f : E → F) (m : Result A E) (r : Result A F) → ((e : E) (x : F) → P e x → x ≡ f e) → MatchResult m (λ a. r ≡ Ok a) (λ e. IsErrAnd r (P e)) → r ≡ map_err f m
-unfolding map_err
-mapped f (Ok a) r says e = e
-mapped f (Err e) (Ok a) says p = elim p [ ]
-mapped f (Err e) (Err x) says p = ap Err (says e x p)
-
 module _ (bytes : List ℕ) (h : Header) (index : ℕ) where
   -- its decoding, or check 8
-  abbrev decoding : Result Instruction Refusal
+  abbrev pub decoding : Result Instruction Refusal
   decoding = map_err (λ _. BadInstruction index) (decode (get_or bytes (12 + 4 * index) 0) (get_or bytes (12 + 4 * index + 1) 0) (get_or bytes (12 + 4 * index + 2) 0) (get_or bytes (12 + 4 * index + 3) 0) (le32 bytes (immediate_start h + 4 * index)))
 
   pub unknown : (x : Refusal) → Err x ≡ decoding → Err x ≡ instruction_at bytes h index

@@ -36,18 +36,19 @@ pub struct Opened {
 pub const REGISTER_NODES: [u32; REGISTERS] = [0, 1, 2, 3, 4, 5, 6, 7, 8, 9, 10, 11, 12, 13, 14, 15];
 
 // The byte at `at`.
+#[tactic(auto, using(claims::proofs::StepLaws::steps), unfolding(model::specs::Field::byte_at, model::specs::Result::map_err, model::specs::Derivation::proof_refusal))]
 fn byte(bytes: &[u8], at: usize) -> Result<u8, Refusal>
     ensures answer { result ≡ proof_field bytes.now (byte_at bytes.now (length bytes.now) at) }
     ensures there { OnOk result (at < length bytes.now) }
 {
-    if at < bytes.len() {
-        Ok(bytes[at])
-    } else {
-        Err(Refusal::ProofExhausted(bytes.len()))
-    }
+    bytes
+        .get(at)
+        .copied()
+        .ok_or(Refusal::ProofExhausted(bytes.len()))
 }
 
 // The number in the two bytes at `at`.
+#[tactic(auto, using(claims::proofs::StepLaws::steps), unfolding(model::specs::Field::half_at, model::specs::Result::map_err, model::specs::Derivation::proof_refusal))]
 fn half(bytes: &[u8], at: usize) -> Result<usize, Refusal>
     requires { at ≤ length bytes.now }
     ensures answer { result ≡ proof_field bytes.now (half_at bytes.now (length bytes.now) at) }
@@ -99,6 +100,7 @@ fn rule_of(number: u8, argument: usize) -> Option<Rule>
 }
 
 // Why an argument that cannot be read is refused.
+#[tactic(auto, unfolding(model::specs::Derivation::proof_refusal))]
 fn refusal(bytes: &[u8], answer: Result<Parsed, ReadError>) -> Refusal
     ensures { IfErr answer (λ e. result ≡ proof_refusal bytes.now e) }
 {
@@ -109,6 +111,7 @@ fn refusal(bytes: &[u8], answer: Result<Parsed, ReadError>) -> Refusal
 }
 
 // The term at `at`, whose variables are on the path.
+#[tactic(auto, using(term_reader::proofs::Substitution::expression_self), unfolding(model::specs::Result::map_err))]
 fn with_argument(
     bytes: &[u8],
     ws: &mut [u32],
@@ -146,6 +149,7 @@ fn with_argument(
 }
 
 // What stands after the rule byte at `at`.
+#[tactic(auto, using(claims::proofs::StepLaws::steps), unfolding(model::specs::Derivation::rule_at))]
 fn read_argument(
     bytes: &[u8],
     ws: &mut [u32],
@@ -181,6 +185,7 @@ fn read_argument(
 }
 
 // The rule at a position.
+#[tactic(auto, using(claims::proofs::StepLaws::steps), unfolding(model::specs::Derivation::rule_at))]
 pub fn read_rule(
     bytes: &[u8],
     ws: &mut [u32],
@@ -194,9 +199,7 @@ pub fn read_rule(
 {
     let number = byte(bytes, at)?;
     let argument = read_argument(bytes, ws, variables, top, at, number)?;
-    let Some(rule) = rule_of(number, argument.value) else {
-        return Err(Refusal::UnfitRule(at));
-    };
+    let rule = rule_of(number, argument.value).ok_or(Refusal::UnfitRule(at))?;
     Ok(Opened {
         rule,
         next: argument.next,

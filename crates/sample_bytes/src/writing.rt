@@ -32,20 +32,18 @@ impl<'a> Writer<'a> {
     pub(crate) fn half(&mut self, x: u16)
         ensures { Same self.old.out self.new.out }
     {
-        let [low, high] = x.to_le_bytes();
-        self.byte(low);
-        self.byte(high);
+        for byte in x.to_le_bytes() {
+            self.byte(byte);
+        }
     }
 
     // Four bytes, low byte first.
     pub(crate) fn word(&mut self, x: u32)
         ensures { Same self.old.out self.new.out }
     {
-        let [a, b, c, d] = x.to_le_bytes();
-        self.byte(a);
-        self.byte(b);
-        self.byte(c);
-        self.byte(d);
+        for byte in x.to_le_bytes() {
+            self.byte(byte);
+        }
     }
 
     // The same byte so many times.

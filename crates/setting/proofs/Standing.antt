@@ -2,8 +2,7 @@
 use mathlib.Core.Path.{◌≡◌, refl, sym, ap, ◌∙◌}
 use mathlib.Core.Option.{none, some}
 use mathlib.Core.List.{List, []}
-use Prim.Native.Nat.{ℕ, ◌+◌, ◌^◌, ◌<◌, ◌≤◌}
-use native.Mathlib.Omega.{arith}
+use Prim.Native.Nat.{ℕ, ◌<◌}
 use lib.ListN.{length, get_or}
 use lib.Dec.{eqb}
 use Rattle.std.specs.Prelude.{Option, None, Some}
@@ -18,24 +17,18 @@ use Rattle.model.specs.Expression.{register_count, atoms_at}
 use Rattle.model.specs.Annotation.{Annotation, annotation_at, annotation_from}
 use Rattle.model.specs.Routine.{Routine}
 use Rattle.model.specs.declared.Header.{Header}
-use Rattle.model.specs.declared.Region.{Region}
-use Rattle.model.specs.declared.Instruction.TheVariants.{Return}
-use Rattle.routine.specs.Code.{instruction_at}
-use Rattle.routine.proofs.Facts.{code_length, code_at}
+use Rattle.routine.proofs.Facts.{code_length}
 use Rattle.annotations.specs.declared.reading.Annotated.{Annotated}
 use Rattle.annotations.specs.Annotations.{annotation_at_place, Placed, annotations_at}
 use Rattle.targets.proofs.Searches.{found_annotation, no_annotation}
 use Rattle.policy.specs.declared.Condition.{Condition}
 use Rattle.policy.specs.Conditions.{atoms_of, condition_at, atoms_in}
-use Rattle.policy.specs.declared.Policy.{Policy as CodePolicy}
-use Rattle.policy.specs.Policy.{policy_of, listed}
-use Rattle.claims.specs.Regions.{RegionList}
+use Rattle.policy.specs.Policy.{policy_of}
 use Rattle.setting.specs.declared.Setting.{Setting}
-use Rattle.setting.specs.Fixed.{Ends, PolicyFits, AnnotationsFit}
+use Rattle.setting.specs.Fixed.{Ends, AnnotationsFit}
 use Rattle.setting.specs.Setting.{TablesStand, Stands}
 use Rattle.expressions.proofs.ReadingLaws.{read_next}
 use Rattle.std.proofs.lemmas.List.{length-map, get_or-map}
-use Rattle.std.proofs.lemmas.List.Elements.{All-weaker}
 
 -- ---- the annotations
 module _ {bytes : List ℕ} {h : Header} {list : List Annotated} (t : AnnotationsFit bytes h list) where
@@ -82,13 +75,6 @@ ends_read : (conditions : List ℕ) (c : Condition) (next : ℕ) → Ends condit
 unfolding atoms_in atoms_of
 ends_read conditions c next e = rw (read_next (condition_at conditions c.atoms c.at) next e).1
 
--- the regions of a policy that fits are few, and each ends below 2^32
-pub region_list : {conditions : List ℕ} {p : CodePolicy} → PolicyFits conditions p → RegionList (listed p.regions)
-region_list {p = p} f = record {
-  few = omega (arith, f.whole, p.regions.few);
-  small = All-weaker (λ (r : Region). r.base + r.size ≤ p.memory) (λ (r : Region). r.base + r.size < 2 ^ 32) (λ r e. omega (arith, e, f.small_memory)) (listed p.regions) f.fits;
-}
-
 module _ (setting : Setting) where
   module _ {policy : Policy} {routine : Routine} (stands : Stands setting policy routine) where
     pub regions_stand : policy.regions ≡ setting.tables.regions.now
@@ -112,6 +98,3 @@ module _ (setting : Setting) where
 
     pub code_long : length routine.code ≡ setting.tables.routine.header.instructions
     code_long = code_length setting.tables.routine.bytes.now setting.tables.routine.header stands.code_read
-
-    pub instruction_stands : (k : ℕ) → k < setting.tables.routine.header.instructions → instruction_at setting.tables.routine.bytes.now setting.tables.routine.header k ≡ Ok (get_or routine.code k Return)
-    instruction_stands k h = code_at setting.tables.routine.bytes.now setting.tables.routine.header stands.code_read k Return h

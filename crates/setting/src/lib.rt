@@ -7,6 +7,7 @@ ghost use Rattle.claims.specs.Regions.{RegionList};
 ghost use Rattle.setting.specs.Fixed.{PolicyFits, AnnotationsFit};
 
 use annotations::reading::Annotated;
+use derivation::Grounds;
 use header::package::Package;
 use model::Region;
 use policy::Policy;
@@ -19,6 +20,18 @@ pub struct Tables<'a> {
     pub regions: &'a [Region],
     pub ghost annotations_fit: { AnnotationsFit routine.bytes.now routine.header annotations.now },
     pub ghost regions_fit: { RegionList regions.now },
+}
+
+impl<'a> Tables<'a> {
+    // What goals are derived by.
+    pub fn grounds(&self) -> Grounds<'a>
+        ensures { (result.bytes.now ≡ self.now.routine.bytes.now) × (result.regions.now ≡ self.now.regions.now) }
+    {
+        Grounds {
+            bytes: self.routine.bytes,
+            regions: self.regions,
+        }
+    }
 }
 
 // The policy, which has passed checks 3 to 6, and the tables, which have its regions.

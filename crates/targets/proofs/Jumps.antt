@@ -64,9 +64,6 @@ module _ (bytes : List ℕ) (h : Header) (list : List Annotated) where
   pub record Targeting (index : ℕ) : Type 0 where
     pub rest : (code : List Instruction) (annotations : List Annotation) → read_code bytes h ≡ Ok code → indexes_in list ≡ indexes_of annotations → targets_annotated annotations 0 code ≡ targets_annotated annotations index (drop index code)
 
-  pub targets_start : Targeting 0
-  targets_start = record { rest = λ code annotations read listed. refl }
-
   module _ (index : ℕ) (g : Targeting index) where
     module _ (l : index < h.instructions) (r : Result (Unit {0}) Refusal) (R : TargetMet bytes h list index r) where
       -- the check at the index comes next

@@ -21,7 +21,7 @@ fn read_pair(
     source: &Source,
     ws: &mut [u32],
     at: usize,
-    left: u32,
+    left: usize,
     top: usize,
     operation: Operation,
 ) -> Result<Parsed, ReadError>
@@ -50,7 +50,7 @@ fn read_shift(
     source: &Source,
     ws: &mut [u32],
     at: usize,
-    left: u32,
+    left: usize,
     top: usize,
 ) -> Result<Parsed, ReadError>
     requires ready { Ready ws.old source.now.registers top left }
@@ -84,7 +84,7 @@ fn read(
     source: &Source,
     ws: &mut [u32],
     at: usize,
-    left: u32,
+    left: usize,
     top: usize,
 ) -> Result<Parsed, ReadError>
     requires { Ready ws.old source.now.registers top left }

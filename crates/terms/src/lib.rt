@@ -36,7 +36,7 @@ fn store(ws: &mut [u32], at: usize, a: u32, b: u32, c: u32)
 fn slot(parts: u32, value: u32, facts: u32) -> usize
     ensures { (hint_base ≤ result) × (result < least_workspace) }
 {
-    let x = (parts as u64) * 40503 + (value as u64) * 60493 + (facts as u64) * 9973;
+    let x = u64::from(parts) * 40503 + u64::from(value) * 60493 + u64::from(facts) * 9973;
     let mixed = (x / 65536 + x) % (HINT_COUNT as u64);
     HINTS + (mixed as usize)
 }

@@ -8,7 +8,14 @@ use native.Mathlib.Omega.{arith}
 use native.Mathlib.Decide.{ℕ_discrete}
 use lib.ListN.{length, get_or, set, length-set}
 use lib.Dec.{eqb}
-use Rattle.std.specs.Prelude.{Option, Some, None}
+use denote.Param.Members.{Mut}
+use denote.Ref.{Bor}
+use Rattle.std.specs.Prelude.{Option, Some, None, MatchOption, IsTrue}
+use Rattle.std.specs.Fn.{CalledAt}
+use Rattle.std.specs.Iterator.Runs.{Run, SomeRun, ItemsCountDown, CallKeepsClosure, NoItemPasses, EndsAtFirstPassing}
+use Rattle.std.proofs.iter.runs.Sources.{nat_range_steps_back, range_runs_back}
+use Rattle.std.proofs.lemmas.Option.{MatchOption-at_some}
+use Rattle.std.proofs.lemmas.Iterator.Adapters.{option_map_id}
 use borrow.Author.Tests.{eqb-true, eqb-false}
 use Rattle.model.specs.Word.{add_w}
 use Rattle.model.specs.Term.{Term, closed, eq_term}
@@ -86,6 +93,24 @@ last_handed a b v u f e h = let z : v - 0 ≡ v = omega arith in rw (e, z) h
 
 last_alone : (a v u f : ℕ) → a ≡ 0 → u ≡ 0 → f ≡ 1 → v < 2 ^ 32 → v ≢ 0 → (a + (v - u) * f) % 2 ^ 32 ≢ 0
 last_alone a v u f e d c s n = rw (e, d, c) (λ h. n (omega arith))
+
+-- ---- `searched`: the search down from k calls a closure f, which tells of a node whether it has a weight and the term of node k
+down : {k : ℕ} (p : Run nat_range_steps_back) → p.from ≡ record { start = 0; end = k } → ItemsCountDown p 0 k
+down p e = rw e at (range_runs_back p p.seen)
+
+pub partner_searched : {F : Type 0} {g : Mut F (Bor ℕ × Unit {0}) Bool} {f : F} {us : List ℕ} {k : ℕ} (r : Option ℕ) → CallKeepsClosure g f
+    → ((j : ℕ) → CalledAt g f j true f → eq_term (term_at us j) (term_at us k) ≡ true)
+    → ((j : ℕ) → CalledAt g f j false f → weighs_at us j ≡ true → eq_term (term_at us j) (term_at us k) ≡ false)
+    → SomeRun nat_range_steps_back (record { start = 0; end = k }) (λ p. MatchOption r (IsTrue p.whole × NoItemPasses p g f) (EndsAtFirstPassing p g f))
+    → Partner us us k r
+partner_searched {us = us} {k} None keeps found other s = record {
+  kept = same_refl 0 hint_base us;
+  found = λ j l. other j (MatchOption-at_some _ _ j (sym (option_map_id _) ∙ (down s.0 s.1).3 (k - 1 - j) (omega (arith, (down s.0 s.1).1 s.2.0)) ∙ ap Some (omega arith)) (s.2.1 keeps (k - 1 - j)));
+}
+partner_searched {us = us} (Some j) keeps found other s = record {
+  kept = same_refl 0 hint_base us;
+  found = (omega (arith, MatchOption-at_some _ _ j s.2.2 ((down s.0 s.1).2 s.2.0)), found j (s.2.3 keeps).0);
+}
 
 -- ---- the ways out of `hand_over`
 pub settled_none : {us : List ℕ} {k : ℕ} {b : Bool} → b ≡ weighs_at us k → b ≡ false → Settled us us (suc k) k true

@@ -122,12 +122,7 @@ fn searched(ws: &[u32], k: usize) -> Option<usize>
     requires { Shaped ws.now (suc k) }
     ensures { Partner ws.now ws.now k result }
 {
-    for j in (0..k).rev() {
-        if weighs(ws, j) && term_walks::equal(ws, j, k) {
-            return Some(j);
-        }
-    }
-    None
+    (0..k).rfind(|&j| weighs(ws, j) && term_walks::equal(ws, j, k))
 }
 
 // A node before k that has the term of node k, the noted one if it has it; none, if none with a weight has it. What is found is noted, so that

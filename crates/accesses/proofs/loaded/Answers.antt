@@ -1,8 +1,5 @@
 use Rattle.accesses.proofs.Accessing.{variable_loads}
 use Rattle.accesses.proofs.loaded.Goals as goal
 
-pub put_variable-requires-clause-formed : goal.put_variable-requires-clause-formed
-put_variable-requires-clause-formed c = c.requires.room_for.path_in.prepared.formed
-
 pub returns : goal.returns
 returns c = variable_loads c.requires.room_for c.put_variable.auto.ws c.requires.register c.put_variable.ensures c.raised-raised.ensures c.with_variable.ensures c.written-written.ensures c.stepped.ensures

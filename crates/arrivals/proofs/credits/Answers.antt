@@ -2,9 +2,6 @@ use Rattle.model.proofs.Results.{stopped}
 use Rattle.arrivals.proofs.Arriving.{first_asks, credits_stopped, second_asks, credits_judged}
 use Rattle.arrivals.proofs.credits.Goals as goal
 
-pub put_constant-requires-clause-formed : goal.put_constant-requires-clause-formed
-put_constant-requires-clause-formed c = c.requires.going.inside.prepared.formed
-
 pub goal-requires : goal.goal-requires
 goal-requires c = let h = first_asks c.requires.going c.requires.credit_in c.requires.owed_in c.put_constant.ensures c.put_constant.auto.ws c.put_pair.ensures c.put_pair.auto.ws c.raised-inner.ensures in record { going = h.0; claim_in = rw c.new.ensures h.1 }
 

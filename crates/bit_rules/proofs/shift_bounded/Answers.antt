@@ -1,24 +1,8 @@
-use Rattle.model.specs.Rule.{premises}
-use Rattle.model_laws.proofs.Steps.{goes_on, stops}
-use Rattle.claims.proofs.PlanLaws.{fits_if, formed_at, misfits, misfits_at_once, stays}
+use Rattle.claims.proofs.PlanLaws.{formed_at}
 use Rattle.bit_rules.proofs.shift_bounded.Goals as goal
-
-pub returns-in_err-left : goal.returns-in_err-left
-unfolding premises
-returns-in_err-left c = misfits_at_once _ _ c.requires.formed c.from_residual.ensures.0 _ (c.in_err-left.ensures.is _)
 
 pub shifted-requires : goal.shifted-requires
 shifted-requires c = formed_at c.requires.formed (c.in_ok-left.ensures.below _ c.requires.claim_below).0
 
-pub returns-in_err-count : goal.returns-in_err-count
-unfolding premises
-returns-in_err-count c = misfits _ _ c.requires.formed c.from_residual-in_err-count.ensures.0 (λ policy g _. goes_on _ (c.in_ok-left.ensures.is _) (stops _ c.in_err-count.ensures.is))
-
 pub is_constant-requires : goal.is_constant-requires
 is_constant-requires c = formed_at c.requires.formed (c.in_ok-left.ensures.below _ c.requires.claim_below).1
-
-pub returns : goal.returns
-unfolding premises
-returns c =
-    fits_if _ _ _ (stays c.requires.formed) c.ask_nothing_if.ensures.fits c.ask_nothing_if.ensures.top
-    (λ policy g _. goes_on _ (c.in_ok-left.ensures.is _) (goes_on _ c.in_ok-count.ensures.is (rw (c.is_constant.ensures, c.shift-bound.ensures))))

@@ -1,8 +1,5 @@
 use Rattle.blocks.proofs.Starting.{assumed}
 use Rattle.blocks.proofs.assuming.Goals as goal
 
-pub push-requires-clause-listed : goal.push-requires-clause-listed
-push-requires-clause-listed c = c.requires.path_in.prepared.assumed
-
 pub returns : goal.returns
 returns c = assumed c.requires.path_in c.requires.room.0 c.push.ensures c.push.auto.ws

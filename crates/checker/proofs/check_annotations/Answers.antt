@@ -1,7 +1,6 @@
 use mathlib.Core.Path.{refl}
 use Rattle.model.proofs.Results.{stopped}
-use Rattle.setting.proofs.Fixing.{policy_fits, annotations_fit}
-use Rattle.setting.proofs.Standing.{region_list}
+use Rattle.setting.proofs.Fixing.{policy_fits}
 use Rattle.checker.proofs.Laws as laws
 use Rattle.checker.proofs.check_annotations.Goals as goal
 
@@ -11,11 +10,8 @@ returns-in_err-read c = rw (stopped _ _ c.from_residual.ensures.1) (laws.annotat
 pub returns-in_err-check_targets : goal.returns-in_err-check_targets
 returns-in_err-check_targets c = rw (stopped _ _ c.from_residual-in_err-check_targets.ensures.1) (laws.targets_stop _ _ _ _ c.in_ok-read.ensures.is c.in_ok-read.ensures.tabled _ (rw c.as_slice-annotations.ensures.same at c.in_err-check_targets.ensures) _ refl)
 
-pub invariant_of-tables : goal.invariant_of-tables
-invariant_of-tables c = record { annotations_fit = rw c.as_slice-annotations.ensures.same (annotations_fit c.in_ok-read.ensures.tabled); regions_fit = rw c.as_slice.ensures (region_list (policy_fits c.requires.checked)) }
-
 pub invariant_of-setting : goal.invariant_of-setting
-invariant_of-setting c = record { policy_fits = policy_fits c.requires.checked; same_regions = c.as_slice.ensures }
+invariant_of-setting c = record { policy_fits = policy_fits c.requires.checked; same_regions = c.as_slice.ensures.same }
 
 pub returns : goal.returns
 returns c = laws.evaluated _ _ c.evaluate.ensures (rw c.as_slice-annotations.ensures.same c.in_ok-read.ensures.is) (rw c.as_slice-annotations.ensures.same c.in_ok-read.ensures.tabled) c.in_ok-check_targets.ensures refl

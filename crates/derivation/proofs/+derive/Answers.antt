@@ -1,19 +1,14 @@
 use Rattle.std.proofs.Common.{refl}
-use Rattle.std.proofs.lemmas.Result.{err_from_is_err_and}
+use Rattle.model.proofs.Results.{stopped}
 use native.Mathlib.Omega.{arith}
-use Rattle.derivation.proofs.DerivationLaws.{derivable_one, too_deep, rule_refused, rule_applied, all_derived, premise_asks, premise_refused, premise_derived}
+use Rattle.derivation.proofs.DerivationLaws.{too_deep, rule_refused, rule_applied, all_derived, premise_asks, premise_refused, premise_derived}
 use Rattle.derivation.proofs.+derive.Goals as goal
 
 pub returns-then-levels-eq0 : goal.returns-then-levels-eq0
 returns-then-levels-eq0 t c = too_deep c.requires (omega arith)
 
-pub apply-requires : goal.apply-requires
-apply-requires t c = rw c.new-plan.ensures.top_is (derivable_one c.requires (omega arith))
-
 pub returns-in_err-next : goal.returns-in_err-next
-returns-in_err-next t c =
-    let p = err_from_is_err_and c.from_residual.result c.from_residual.ensures.1 in
-    rw (p.1, p.2) (rule_refused c.requires (omega arith) (rw c.new-plan.ensures.top_is at c.in_err-next.ensures))
+returns-in_err-next t c = rw (stopped _ _ c.from_residual.ensures.1) (rule_refused c.requires (omega arith) (rw c.new-plan.ensures.top_is at c.in_err-next.ensures))
 
 pub loop-premise-init : goal.loop-premise-init
 loop-premise-init t c = rule_applied c.requires (omega arith) (rw c.new-plan.ensures.top_is at c.in_ok-next.ensures) c.apply.auto.ws c.premises-premise-items.ensures
@@ -22,10 +17,7 @@ pub derive-requires : goal.derive-requires
 derive-requires t c = (omega (arith, c.decreases), premise_asks c.loop-premise.invariant c.loop-premise-test.true _)
 
 pub returns-in_err-reached : goal.returns-in_err-reached
-returns-in_err-reached t c =
-    let p = err_from_is_err_and c.from_residual-in_err-reached.result c.from_residual-in_err-reached.ensures.1 in
-    rw (p.1, p.2)
-    (premise_refused c.requires (omega arith) (rw c.new-plan.ensures.top_is at c.in_ok-next.ensures) c.premises-premise-items.ensures refl c.loop-premise.invariant c.loop-premise-test.true _ c.in_err-reached.ensures)
+returns-in_err-reached t c = rw (stopped _ _ c.from_residual-in_err-reached.ensures.1) (premise_refused c.requires (omega arith) (rw c.new-plan.ensures.top_is at c.in_ok-next.ensures) c.premises-premise-items.ensures refl c.loop-premise.invariant c.loop-premise-test.true _ c.in_err-reached.ensures)
 
 pub loop-premise-preserved : goal.loop-premise-preserved
 loop-premise-preserved t c = premise_derived c.loop-premise.invariant c.loop-premise-test.true _ c.in_ok-reached.ensures c.derive.auto.ws

@@ -2,9 +2,6 @@ use Rattle.expressions.proofs.ReadingLaws as laws
 use Rattle.model.proofs.Results.{stopped}
 use Rattle.expressions.proofs.atoms.Goals as goal
 
-pub loop-init : goal.loop-init
-loop-init c = laws.going_start _ _ _ _ _
-
 pub returns-in_err-next-clause-ends : goal.returns-in_err-next-clause-ends
 returns-in_err-next-clause-ends c =
     rw (stopped _ _ c.from_residual.ensures.1) (laws.atoms_stop _ _ _ _ _ _ _ c.loop.invariant c.loop-test.true _ c.in_err-next.ensures.ends)
@@ -14,6 +11,3 @@ loop-preserved c = laws.going_on _ _ _ _ _ _ _ c.loop.invariant c.loop-test.true
 
 pub returns-clause-ends : goal.returns-clause-ends
 returns-clause-ends c = laws.atoms_read _ _ _ _ _ _ _ c.loop.invariant c.loop-test.false
-
-pub returns-clause-inside : goal.returns-clause-inside
-returns-clause-inside c = c.loop.invariant.inside

@@ -2,9 +2,6 @@ use native.Mathlib.Omega.{arith}
 use Rattle.forms.proofs.Laws.{first, second, pair_parts, variable_within, no_mask, no_shift, accumulated_constant, accumulated_variable, accumulated_sum, accumulated_difference}
 use Rattle.forms.proofs.+accumulate.Goals as goal
 
-pub change-requires-in-Variable : goal.change-requires-in-Variable
-change-requires-in-Variable t c = omega (arith, variable_within c.requires c.in-Variable.ensures, c.requires.formed.shaped.words, c.requires.formed.shaped.fits)
-
 pub returns-in-Constant : goal.returns-in-Constant
 returns-in-Constant t c = accumulated_constant c.requires (λ k. omega (arith, c.type_inv.ws k)) c.in-Constant.ensures (omega arith) c.change.ensures
 

@@ -2,8 +2,8 @@ use native.Mathlib.Omega.{arith}
 use Rattle.forms.proofs.Laws.{taken_none, taken_more}
 use Rattle.forms.proofs.empty_coefficients.Goals as goal
 
-pub loop-v-init : goal.loop-v-init
-loop-v-init c = taken_none _
+pub loop-coefficient-init : goal.loop-coefficient-init
+loop-coefficient-init c = taken_none _ _
 
-pub loop-v-preserved : goal.loop-v-preserved
-loop-v-preserved c = taken_more c.loop-v.invariant (omega arith) c.take.ensures.value (rw c.take.ensures.after)
+pub loop-coefficient-preserved : goal.loop-coefficient-preserved
+loop-coefficient-preserved c = taken_more _ _ c.loop-coefficient.invariant (omega arith) c.take.ensures.value c.take.ensures.after

@@ -1,11 +1,10 @@
-use Rattle.goals.proofs.Settling.{goal_asks, goal_derived, goal_refused}
+use Rattle.model.specs.Result.{Err, Ok}
+use Rattle.model.proofs.Results.{stopped}
+use Rattle.goals.proofs.Settling.{goal_judged}
 use Rattle.goals.proofs.goal.Goals as goal
 
-pub check_goal-requires : goal.check_goal-requires
-check_goal-requires c = goal_asks c.requires.going c.args.grounds.now.regions_fit c.requires.claim_in
+pub returns-in_err-at : goal.returns-in_err-at
+returns-in_err-at c = rw (stopped _ _ c.from_residual.ensures.1) (goal_judged c.requires.going _ (Err _) c.check_goal-derived.ensures (λ e h. cc) c.in_err-at.ensures.cases)
 
-pub returns-in-Ok : goal.returns-in-Ok
-returns-in-Ok c = goal_derived c.requires.going c.in-Ok.ensures
-
-pub returns-in-Err : goal.returns-in-Err
-returns-in-Err c = rw c.refused.ensures (goal_refused c.requires.going c.in-Err.ensures)
+pub returns : goal.returns
+returns c = goal_judged c.requires.going _ (Ok _) c.check_goal-derived.ensures (λ e h. absurd h) c.in_ok-at.ensures.cases

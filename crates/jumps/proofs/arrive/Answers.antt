@@ -14,10 +14,10 @@ pub bounds-tables-k : goal.bounds-tables-k
 bounds-tables-k c = found_inside c.args.tables.now.annotations_fit _ c.position.ensures c.in-Some.is
 
 pub arrival-requires-clause-end_in_bounds : goal.arrival-requires-clause-end_in_bounds
-arrival-requires-clause-end_in_bounds c = rw c.proof_start-end.ensures (omega (arith, c.args.tables.now.routine.fits.whole), found_before_proof c.args.tables.now _ c.position.ensures c.in-Some.is _)
+arrival-requires-clause-end_in_bounds c = rw (c.proof_start-end.ensures, c.grounds-grounds.ensures.0) (omega (arith, c.args.tables.now.routine.fits.whole), found_before_proof c.args.tables.now _ c.position.ensures c.in-Some.is _)
 
 pub returns-in_err-after : goal.returns-in_err-after
-returns-in_err-after c = rw (stopped _ _ c.from_residual.ensures.1) (arrival_stopped c.position.ensures c.in-Some.is _ (rw c.proof_start-end.ensures at c.in_err-after.ensures))
+returns-in_err-after c = rw (stopped _ _ c.from_residual.ensures.1) (arrival_stopped c.position.ensures c.in-Some.is _ (rw (c.proof_start-end.ensures, c.grounds-grounds.ensures.0, c.grounds-grounds.ensures.1) at c.in_err-after.ensures))
 
 pub returns : goal.returns
-returns c = arrived_at c.position.ensures c.in-Some.is _ (rw c.proof_start-end.ensures at c.in_ok-after.ensures)
+returns c = arrived_at c.position.ensures c.in-Some.is _ (rw (c.proof_start-end.ensures, c.grounds-grounds.ensures.0, c.grounds-grounds.ensures.1) at c.in_ok-after.ensures)

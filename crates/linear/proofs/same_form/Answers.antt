@@ -1,11 +1,8 @@
-use Rattle.linear.proofs.Laws.{same_twins, comparable_most, answered, restored}
+use Rattle.linear.proofs.Laws.{same_twins, answered, restored}
 use Rattle.linear.proofs.same_form.Goals as goal
 
 pub returns-then-twins-clause-value : goal.returns-then-twins-clause-value
 returns-then-twins-clause-value c = same_twins c.requires c.twins.ensures c.if-twins.true
-
-pub reckon-opaque-requires : goal.reckon-opaque-requires
-reckon-opaque-requires c = comparable_most c.requires
 
 pub returns : goal.returns
 returns c = record {

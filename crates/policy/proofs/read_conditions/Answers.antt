@@ -13,6 +13,3 @@ returns-then-end-bytes-clause-read c = laws.spare _ _ _ _ c.in_ok-read_condition
 
 pub returns-clause-read : goal.returns-clause-read
 returns-clause-read c = laws.both _ _ _ _ c.in_ok-read_condition.ensures.stands _ c.in_ok-end.ensures.stands c.if-end-bytes.false
-
-pub returns-clause-stand : goal.returns-clause-stand
-returns-clause-stand c = laws.both_stand _ _ _ _ c.in_ok-read_condition.ensures.stands _ c.in_ok-end.ensures.stands c.if-end-bytes.false

@@ -18,4 +18,4 @@ pub run_code-requires : goal.run_code-requires
 run_code-requires c = laws.runnable _ _ c.in_ok-routine.routine.fits c.in_ok-code.ensures.is c.in_ok-code.ensures.formed c.if-not-registers-memory.false
 
 pub returns : goal.returns
-returns c = laws.runs _ _ _ _ _ _ c.in_ok-granted.ensures.read c.if-not-registers-memory.false _ c.in_ok-routine.ensures.is _ (rw c.in_ok-routine.ensures.whole at c.in_ok-code.ensures.is) _ _ _ (rw c.as_slice-regions.ensures at c.run_code.ensures)
+returns c = laws.runs _ _ _ _ _ _ c.in_ok-granted.ensures.read c.if-not-registers-memory.false _ c.in_ok-routine.ensures.is _ (rw c.in_ok-routine.ensures.whole at c.in_ok-code.ensures.is) _ _ _ (rw c.as_slice-regions.ensures.same at c.run_code.ensures)

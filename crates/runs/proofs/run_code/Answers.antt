@@ -2,9 +2,6 @@ use native.Mathlib.Omega.{arith}
 use Rattle.runs.proofs.Runs as runs
 use Rattle.runs.proofs.run_code.Goals as goal
 
-pub loop-steps-init : goal.loop-steps-init
-loop-steps-init c = runs.begin _ _ _ _ _ c.requires
-
 pub returns-then-code-counter : goal.returns-then-code-counter
 returns-then-code-counter c = rw c.stopped.ensures (runs.past _ _ _ _ _ _ _ _ _ c.loop-steps.invariant c.loop-steps-test.true c.if-code-counter.true)
 

@@ -1,10 +1,7 @@
 use native.Mathlib.Omega.{arith}
 use Rattle.model.proofs.Results.{stopped}
-use Rattle.targets.proofs.Jumps.{targets_start, targets_more, targets_refused, targets_done}
+use Rattle.targets.proofs.Jumps.{targets_more, targets_refused, targets_done}
 use Rattle.targets.proofs.check_targets.Goals as goal
-
-pub loop-index-init : goal.loop-index-init
-loop-index-init c = targets_start _ _ _
 
 pub returns-in_err-check_target : goal.returns-in_err-check_target
 returns-in_err-check_target c = rw (stopped _ _ c.from_residual.ensures.1) (targets_refused _ _ _ _ c.loop-index.invariant c.loop-index-test.true _ c.check_target.ensures _ c.in_err-check_target.was)

@@ -2,8 +2,5 @@ use native.Mathlib.Omega.{arith}
 use Rattle.moves.proofs.Assigning.{constant_built, built_assigns}
 use Rattle.moves.proofs.assignments.set.Goals as goal
 
-pub put_constant-requires-clause-formed : goal.put_constant-requires-clause-formed
-put_constant-requires-clause-formed c = c.requires.room_for.path_in.prepared.formed
-
 pub returns : goal.returns
-returns c = built_assigns _ c.requires.room_for c.put_constant.auto.ws c.requires.register (omega arith) (constant_built c.requires.room_for.path_in c.put_constant.auto.ws c.put_constant.ensures) c.raised.ensures c.assign.ensures
+returns c = built_assigns c.requires.room_for c.put_constant.auto.ws c.requires.register (omega arith) (constant_built c.requires.room_for.path_in c.put_constant.auto.ws c.put_constant.ensures) c.raised.ensures c.assign.ensures

@@ -2,8 +2,5 @@ use native.Mathlib.Omega.{arith}
 use Rattle.moves.proofs.Assigning.{shift_built, built_assigns}
 use Rattle.moves.proofs.assignments.shift.Goals as goal
 
-pub put_shift-requires-clause-formed : goal.put_shift-requires-clause-formed
-put_shift-requires-clause-formed c = c.requires.room_for.path_in.prepared.formed
-
 pub returns : goal.returns
-returns c = built_assigns _ c.requires.room_for c.put_shift.auto.ws c.requires.registers.0 (omega arith) (shift_built c.requires.room_for.path_in c.put_shift.auto.ws c.requires.registers.1 c.node.ensures c.put_shift.ensures) c.raised.ensures c.assign.ensures
+returns c = built_assigns c.requires.room_for c.put_shift.auto.ws c.requires.registers.0 (omega arith) (shift_built c.requires.room_for.path_in c.put_shift.auto.ws c.requires.registers.1 c.node.ensures c.put_shift.ensures) c.raised.ensures c.assign.ensures

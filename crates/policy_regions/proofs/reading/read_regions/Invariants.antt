@@ -1,5 +1,0 @@
-use Rattle.policy_regions.proofs.RegionsLaws.{Going}
-use Rattle.policy_regions.proofs.reading.read_regions.Given as goal
-
-abbrev pub invariant-loop-j : goal.invariant-loop-j
-invariant-loop-j l = Going l.bytes l.sizes l.list l.j
