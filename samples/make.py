@@ -237,3 +237,82 @@ write('packed_fields', policy(17, 8, [(0, 16, 3), (16, 1, 1)], post=PACKED_POST)
 TABLE_END = 12 + 8 * len(PACKED) + len(FIRST_ACCESS) + 3 + len(BELOW_TABLE_END)
 write('field_past_table', policy(17, 8, [(0, 15, 3), (16, 1, 1)], post=PACKED_POST), PACKED_PACKAGE, PACKED_START,
       f'verdict=16 place={TABLE_END - 1} goals=1', 'run=0 place=7 steps=8')
+
+# ---- farm codes inside a table that is posted to: two neighbouring sheds of four words each, farm code, eggs, weight, cracked
+#
+# r1 is the code that the egg bears, r2 its weight; the egg is posted to the shed that has its code, or to none.
+#
+#  0  r3 := 0
+#  1  r4 := Mem[r3 + 0]           the first shed's code
+#  2  jump to 6 if r1 = r4
+#  3  r4 := Mem[r3 + 4]           the second shed's code
+#  4  jump to 14 if r1 = r4
+#  5  return
+#  6  r3 := 0                     annotated, credit 8: the first shed; at 14 the second, with r3 := 4
+#  7  r5 := Mem[r3 + 1]
+#  8  r5 := r5 + 1
+#  9  Mem[r3 + 1] := r5           one more egg
+# 10  r5 := Mem[r3 + 2]
+# 11  r5 := r5 + r2
+# 12  Mem[r3 + 2] := r5           its weight
+# 13  return
+
+FIRST_ROW, SECOND_ROW = 0, 4
+
+
+def counting(row, count=1, total=2):
+    """counts one egg for the shed whose row starts at that word"""
+    return [
+        instruction(0, d=3, i=row), instruction(4, d=5, a=3, i=count), instruction(2, d=5, a=5, i=1), instruction(5, d=5, a=3, i=count),
+        instruction(4, d=5, a=3, i=total), instruction(1, d=5, a=5, b=2), instruction(5, d=5, a=3, i=total), instruction(9),
+    ]
+
+
+ROW_BY_CODE = [
+    instruction(0, d=3, i=0), instruction(4, d=4, a=3, i=0), instruction(8, a=1, b=4, i=6),
+    instruction(4, d=4, a=3, i=4), instruction(8, a=1, b=4, i=14), instruction(9),
+]
+ROW_ANNOTATIONS = [annotation(6, const(8)), annotation(14, const(8))]
+
+
+def reads(region):
+    return bytes([22, region]) + EVALUATE + EVALUATE
+
+
+def writes(region):
+    return bytes([23, region]) + EVALUATE + EVALUATE
+
+
+def rows_proof(first_code, second_code, first_rest, second_rest):
+    """by the regions that the codes and the words posted to lie in"""
+    found = EVALUATE + EVALUATE
+    by_code = [reads(first_code), found, reads(second_code), found, EVALUATE]
+    rests = [(reads(region) + writes(region)) * 2 + REFLEXIVE for region in (first_rest, second_rest)]
+    return b''.join(by_code + rests)
+
+
+ROWS = [17, 240, 14400, 3, 18, 250, 15500, 4]
+ROWS_START = start(13, [0, 18, 61] + [0] * 13, ROWS)
+
+# the table drawn in parts: the first code, the words posted to, the second code, the words posted to
+
+PARTS = [(0, 1, 1), (1, 3, 3), (4, 1, 1), (5, 3, 3)]
+BESIDE_THE_CODES = ROW_BY_CODE + counting(FIRST_ROW) + counting(SECOND_ROW)
+write('farm_codes', policy(8, 13, PARTS), package(BESIDE_THE_CODES, ROW_ANNOTATIONS, rows_proof(0, 2, 1, 3)), ROWS_START,
+      'verdict=0 place=0 goals=17', 'run=0 place=21 steps=13')
+
+# ---- the table drawn as one writable region, with the codes over it: the codes are safe, and no store to that region can be derived
+
+DRAWN_AS_ONE = [(0, 8, 3), (0, 1, 1), (4, 1, 1)]
+DRAWN_PACKAGE = package(BESIDE_THE_CODES, ROW_ANNOTATIONS, rows_proof(1, 2, 0, 0))
+ROWS_PROOF_AT = len(DRAWN_PACKAGE) - len(rows_proof(1, 2, 0, 0))
+# the codes are read, 4 bytes each, and 5 goals of one byte; then the first shed's eggs are read, and the store is next
+FIRST_STORE = ROWS_PROOF_AT + 4 + 2 + 4 + 2 + 1 + 4
+write('farm_codes_one_region', policy(8, 13, DRAWN_AS_ONE), DRAWN_PACKAGE, ROWS_START,
+      f'verdict=16 place={FIRST_STORE} goals=8', 'run=0 place=21 steps=13')
+
+# ---- a routine under that drawing that posts one word too low: it would count eggs in the farm code
+
+TOO_LOW = ROW_BY_CODE + counting(FIRST_ROW, 0, 1) + counting(SECOND_ROW, 0, 1)
+write('farm_code_written', policy(8, 13, DRAWN_AS_ONE), package(TOO_LOW, ROW_ANNOTATIONS, rows_proof(1, 2, 0, 0)), ROWS_START,
+      f'verdict=16 place={FIRST_STORE} goals=8', 'run=21 place=17 steps=8')

@@ -33,7 +33,8 @@ void pcc_check(uint32_t *workspace, size_t words,
  * given. answer: number (0 returned, 20 budget spent, 21 access without the
  * right, 22 past the last instruction, else the check that refuses), place,
  * steps. Registers and memory hold the machine's state afterwards; if a check
- * refuses they are left as they were. */
+ * refuses they are left as they were. In every run a memory word that the policy
+ * does not make writable keeps what it held. */
 void pcc_run(const uint8_t *policy, size_t policy_len,
              const uint8_t *package, size_t package_len,
              uint32_t *registers, size_t register_words,

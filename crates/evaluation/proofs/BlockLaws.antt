@@ -41,7 +41,7 @@ use Rattle.blocks.specs.declared.Block.{Block}
 use Rattle.moves.specs.Moves.{RoomFor}
 use Rattle.moves.proofs.PathLaws.{room_kept}
 use Rattle.jumps.specs.Jumps.{ArrivedAs, Arrives}
-use Rattle.evaluation.specs.Walks.{Walks}
+use Rattle.walks.specs.Walks.{Walks}
 use Rattle.evaluation.specs.Blocks.{TraceJudged, Noted, annotation_block_at, all_annotation_blocks, verdict_of}
 
 -- words that keep the coefficients

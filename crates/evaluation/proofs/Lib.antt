@@ -1,3 +1,1 @@
-pub mod Advancing
-pub mod WalkLaws
 pub mod BlockLaws

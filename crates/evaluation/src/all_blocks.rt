@@ -4,7 +4,6 @@ ghost use Rattle.goals.specs.Judging.{Reached};
 ghost use Rattle.blocks.specs.Starting.{Workspace};
 ghost use Rattle.evaluation.specs.Blocks.{TraceJudged, Noted, annotation_block_at, all_annotation_blocks};
 
-use crate::walks;
 use annotations::reading::Annotated;
 use goals::Progress;
 use refusals::Refused;

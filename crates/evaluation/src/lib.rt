@@ -2,7 +2,6 @@
 #![tactic(auto)]
 
 pub mod all_blocks;
-pub mod walks;
 
 ghost use Rattle.std.specs.Prelude.{◌≡◌};
 ghost use Rattle.model.specs.Policy.{Policy as ModelPolicy};

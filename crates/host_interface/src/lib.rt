@@ -35,7 +35,7 @@ pub extern "C" fn pcc_run(
     budget: u32,
     answer: &mut [u64; 3],
 )
-    ensures { RunExported (run_of policy.now routine.now registers.old memory.old budget) registers.new memory.new answer.new }
+    ensures { RunExported (run_of policy.now routine.now registers.old memory.old budget) policy.now memory.old registers.new memory.new answer.new }
 {
     let outcome = loader::run(policy, routine, registers, memory, budget);
     *answer = [

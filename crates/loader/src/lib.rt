@@ -1,11 +1,13 @@
 // The loader's public face.
 #![tactic(auto)]
 
-ghost use Rattle.std.specs.Prelude.{◌≡◌, ◌+◌, length};
+ghost use Rattle.std.specs.Prelude.{◌≡◌, ◌+◌, ℕ, length};
+ghost use Rattle.std.proofs.Math.ListN.{get_elem?};
 ghost use Rattle.model.specs.Package.{proof_section, finder_answer};
 ghost use Rattle.model.specs.Runner.{run_of};
 ghost use Rattle.model.specs.Verdict.{check_of, workspace_after};
 ghost use Rattle.model.specs.Property.{Safe};
+ghost use Rattle.model.specs.Kept.{Protected};
 
 use model::{Finding, Outcome, Verdict};
 
@@ -20,7 +22,8 @@ pub fn check(workspace: &mut [u32], policy: &[u8], routine: &[u8]) -> Verdict
 }
 
 // Runs a routine under a policy on lent registers and memory, for at most `budget` steps: the number, place and steps that the
-// definitions give, and in the registers and memory the machine's state after exactly those steps.
+// definitions give, and in the registers and memory the machine's state after exactly those steps. A memory word that the policy does not
+// make writable keeps what it held.
 pub fn run(
     policy: &[u8],
     routine: &[u8],
@@ -28,7 +31,8 @@ pub fn run(
     memory: &mut [u32],
     budget: u32,
 ) -> Outcome
-    ensures { record { outcome = result; registers = registers.new; memory = memory.new } ≡ run_of policy.now routine.now registers.old memory.old budget }
+    ensures outcome { record { outcome = result; registers = registers.new; memory = memory.new } ≡ run_of policy.now routine.now registers.old memory.old budget }
+    ensures kept { (word : ℕ) → Protected policy.now word → get_elem? memory.new word ≡ get_elem? memory.old word }
 {
     runner::run(policy, routine, registers, memory, budget)
 }

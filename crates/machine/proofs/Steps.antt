@@ -9,20 +9,19 @@ use Rattle.model.specs.Word.{add_w, sub_w, mask_w, shift_w}
 use Rattle.model.specs.Policy.{Policy, readable_word, writable_word}
 use Rattle.model.specs.Machine.{State, next, assigned, branched, execute}
 use Rattle.model.specs.declared.Region.{Region}
-use Rattle.model.specs.declared.Right.TheVariants.{Read, Write}
 use Rattle.model.specs.declared.Instruction.{Instruction}
 use Rattle.model.specs.declared.Instruction.TheVariants.{Set, Add, AddImmediate, Subtract, Load, Store, Jump, JumpLess, JumpEqual, Return, Mask, Shift}
 use Rattle.machine.specs.declared.Progress.{Progress}
 use Rattle.machine.specs.declared.Progress.TheVariants.{Next, Returned, WithoutRight}
-use Rattle.rights.specs.Right.{permits}
+use Rattle.rights.specs.Right.{readable_in, writable_in}
 use Rattle.machine.specs.Step.{Under, Executed, state, target, step_of, Kept}
 
 module _ (policy : Policy) (memory : ℕ) (regions : List Region) (u : Under policy memory regions) (w : ℕ) where
-  pub reads : readable_word policy w ≡ permits Read memory regions w
+  pub reads : readable_word policy w ≡ readable_in memory regions w
   unfolding readable_word
   reads = rw (u.words, u.granted)
 
-  pub writes : writable_word policy w ≡ permits Write memory regions w
+  pub writes : writable_word policy w ≡ writable_in memory regions w
   unfolding writable_word
   writes = rw (u.words, u.granted)
 
@@ -78,7 +77,7 @@ module _ (regions : List Region) (counter : ℕ) (registers memory : List ℕ) w
     address : m ≡ add_w (get_or registers a 0) i
     address = em ∙ rw ex
 
-    module _ (g : given ≡ permits Read (length memory) regions m) where
+    module _ (g : given ≡ readable_in (length memory) regions m) where
       pub loads : given ≡ true → (r : Progress) (registers' : List ℕ) → (r ≡ Next (counter + 1)) × (registers' ≡ set registers d (get_or memory m 0)) → Executed regions (Load d a i) s r registers' memory
       unfolding execute
       loads t r registers' done = onward (Load d a i) (Load d a i) refl r (counter + 1) registers' memory done.0 (λ p u. rw (done.1, ← address, reads p (length memory) regions u m, ← g, t))
@@ -87,7 +86,7 @@ module _ (regions : List Region) (counter : ℕ) (registers memory : List ℕ) w
       unfolding execute
       refuses_load t = ends (Load d a i) (Load d a i) refl WithoutRight (refl, refl) (λ p u. rw (← address, reads p (length memory) regions u m, ← g, t))
 
-    module _ (g : given ≡ permits Write (length memory) regions m) where
+    module _ (g : given ≡ writable_in (length memory) regions m) where
       pub stores : given ≡ true → (w : ℕ) → w ≡ get_or registers d 0 → (r : Progress) (memory' : List ℕ) → (r ≡ Next (counter + 1)) × (memory' ≡ set memory m w) → Executed regions (Store d a i) s r registers memory'
       unfolding execute
       stores t w ew r memory' done = onward (Store d a i) (Store d a i) refl r (counter + 1) registers memory' done.0 (λ p u. rw (done.1, ← address, writes p (length memory) regions u m, ← g, t, ew))

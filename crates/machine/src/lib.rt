@@ -1,11 +1,11 @@
 // The machine: one step of one instruction on lent registers and memory.
-#![tactic(auto)]
+#![tactic(auto, unfolding(model::specs::Policy::readable_word, model::specs::Policy::writable_word))]
 
 ghost use Rattle.std.specs.Prelude.{◌≡◌, ◌+◌, ◌<◌, length, get_or, set};
 ghost use Rattle.model.specs.Package.{most_instructions};
 ghost use Rattle.machine.specs.Step.{Ready, target, state, Executed};
 
-use model::{Instruction, Region, Right};
+use model::{Instruction, Region};
 
 // What a step comes to: the counter to go on at, or why the run ends.
 #[derive(Clone, Copy)]
@@ -65,7 +65,7 @@ fn load(
     ensures { Executed regions.now (Instruction.Load d a i) (state counter registers.old memory.now) result registers.new memory.now }
 {
     let at = fields::add(word(registers, a), i) as usize;
-    if rights::permits(regions, memory.len(), Right::Read, at) {
+    if rights::readable(regions, memory.len(), at) {
         let w = memory[at];
         return assign(d, w, counter, registers);
     }
@@ -86,7 +86,7 @@ fn store(
     ensures { Executed regions.now (Instruction.Store d a i) (state counter registers.now memory.old) result registers.now memory.new }
 {
     let at = fields::add(word(registers, a), i) as usize;
-    if rights::permits(regions, memory.len(), Right::Write, at) {
+    if rights::writable(regions, memory.len(), at) {
         let w = word(registers, d);
         return put(memory, at, w, counter);
     }

@@ -11,7 +11,8 @@ use claims::{Claim, Plan, parts};
 use model::{Comparison, Misfit, Region, Right};
 use nodes::Atom;
 
-// Rules 22 and 23: readable(t), writable(t), from base ≤ t, t < base plus length, region j having the right. Two new nodes.
+// Rules 22 and 23: readable(t), writable(t), from base ≤ t, t < base plus length, region j giving the right to each of its words.
+// Two new nodes.
 pub fn in_region(
     regions: &[Region],
     ws: &mut [u32],
@@ -32,7 +33,7 @@ pub fn in_region(
         return Err(Misfit);
     }
     let region = regions.get(j).ok_or(Misfit)?;
-    if !rights::grants(region, right) {
+    if !rights::grants_throughout(regions, region, right) {
         return Err(Misfit);
     }
     terms::put_constant(ws, top, region.base);

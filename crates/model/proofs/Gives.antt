@@ -2,6 +2,7 @@
 use Prim.Native.Nat.{ℕ, zero, suc}
 use mathlib.Core.Bool.{Bool, true, false}
 use mathlib.Core.List.{List}
+use mathlib.Core.Option.{Option, none, some}
 use mathlib.Core.Path.{◌≡◌, refl, subst}
 use lib.ListN.{get_elem?}
 use Rattle.model.specs.Result.{Result, ◌>>=◌, check, found, map_err, Err, Ok}
@@ -36,6 +37,12 @@ module _ {E : Type 0} where
     pub gives_any : (r : Result A E) → Gives (λ _. Unit {0}) r
     gives_any (Err e) = stops
     gives_any (Ok a) = gives tt
+
+    -- what is found, where it is found
+    pub gives_found : (o : Option A) (e : E) → Gives (λ a. o ≡ some a) (found o e)
+    unfolding found
+    gives_found none e = stops
+    gives_found (some a) e = gives refl
 
     module _ {P : A → Type 0} where
       pub gives_map : {Q : A → Type 0} {r : Result A E} → ((a : A) → Q a → P a) → Gives Q r → Gives P r

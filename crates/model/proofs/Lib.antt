@@ -6,6 +6,7 @@ pub mod Words
 pub mod Terms
 pub mod Indeterminates
 pub mod LinearForm
+pub mod Rights
 pub mod Rules
 pub mod Derivations
 pub mod Runs

@@ -1,28 +1,30 @@
 -- Each rule is sound: where its premises hold under an environment, so does the claim. Assumes nothing.
-use Prim.Native.Nat.{ℕ, ◌≤◌, ◌<◌, ◌^◌, ◌+◌, zero, suc}
+use Prim.Native.Nat.{ℕ, ◌≤◌, ◌<◌, ◌^◌, ◌+◌}
 use mathlib.Core.Bool.{Bool, true, ◌&&◌}
 use mathlib.Core.List.{List, [], ◌∷◌}
+use mathlib.Core.Option.{some}
 use mathlib.Core.Path.{◌≡◌, ap, ◌∙◌, sym, subst, ap₂}
 use native.Mathlib.Omega.{arith}
-use lib.Dec.{ltb, eqb}
+use lib.Dec.{leb, eqb}
 use lib.ListN.{get_elem?}
-use borrow.Author.Tests.{leb-true, lt-ltb, le-leb, eqb-true}
+use borrow.Author.Tests.{leb-true, ltb-true, lt-ltb, le-leb, eqb-true}
 use Rattle.model.specs.Atom.{Atom, less, Compares, holds, Holds, AllHold, eq_atom}
 use Rattle.model.specs.Goals.{Claim, Goal, atom, readable, writable}
 use Rattle.model.specs.Linear.{same_form}
-use Rattle.model.specs.Policy.{Policy, may_read, may_write, covers, some_region, readable_word, writable_word, region_fits}
-use Rattle.model.specs.Result.{Fit, ◌>>=◌, check, found, misfit, Ok}
+use Rattle.model.specs.Policy.{Policy, may_read, covers, readable_word, writable_word, writable_region, region_fits}
+use Rattle.model.specs.Rights.{Fitting, WhollyWritable}
+use Rattle.model.specs.Result.{Fit, ◌>>=◌, check, misfit, Ok}
 use Rattle.model.specs.Rule.{Rule, Format, rules, atom_of, sides_of, readable_of, writable_of, pair_of, sum_of, difference_of, mask_of, shift_of, equal_pairs, congruent, region_premises, premises, from_assumption, equal_reflexive, at_most_reflexive, evaluation, equal_symmetric, equal_transitive, at_most_transitive, less_at_most, at_most_less, at_most_of_less, at_most_of_equal, congruence, linear, zero_at_most, sum_monotone, difference_monotone, successor_at_most, below_successor, sum_no_overflow, less_of_at_most, unequal_of_less, unequal_symmetric, in_readable_region, in_writable_region, contradiction, mask_at_most, shift_at_most, shift_bounded, plain, with_index, with_term, with_region}
 use Rattle.model.specs.Term.{Term, eval, closed, eq_term, constant, variable, sum, difference, mask, shift}
 use Rattle.model.specs.Word.{add_w, sub_w, mask_w, shift_w}
 use Rattle.model.specs.declared.Comparison.{Comparison}
 use Rattle.model.specs.declared.Comparison.TheVariants.{Equal, Unequal, Less, AtMost}
 use Rattle.model.specs.declared.Region.{Region}
-use Rattle.model.specs.declared.Misfit.{Misfit}
-use Rattle.model.proofs.Gives.{Gives, gives_map, gives_check, gives_element, gives, gives_then, stops}
+use Rattle.model.proofs.Gives.{Gives, gives_map, gives_check, gives_element, gives_found, gives, gives_then, stops}
 use Rattle.model.proofs.LinearForm.{linear_sound}
-use Rattle.model.proofs.Lists.{empty, Every, ◌&◌}
-use Rattle.model.proofs.Terms.{same_atom, same_term, and_both, and_right, same_kind, eval_word, WordEnv, and_left, closed_holds, or_right, with_tag}
+use Rattle.model.proofs.Lists.{empty, Every, ◌&◌, every_at}
+use Rattle.model.proofs.Rights.{given_some, wholly_writable}
+use Rattle.model.proofs.Terms.{same_atom, same_term, and_both, and_right, same_kind, eval_word, WordEnv, closed_holds, with_tag}
 use Rattle.model.proofs.Words.{masked_at_most, shifted_at_most, shifted_monotone}
 
 -- what a claim says under an environment
@@ -103,16 +105,32 @@ module _ (env : ℕ → ℕ) where
 
 -- ---- regions
 
--- region j fits, and where it covers a word and has the right, some region does
-pub region_at_lem : (right : Region → Bool) (memory : ℕ) (regions : List Region) (j : ℕ) → Every (λ r. region_fits memory r ≡ true) regions
-    → Gives {E = Misfit}
-    (λ r. (region_fits memory r ≡ true) × ((w : ℕ) → covers r w ≡ true → right r ≡ true → some_region right regions w ≡ true))
-    (found (get_elem? regions j) misfit)
-unfolding some_region found
-region_at_lem right memory [] j empty = stops
-region_at_lem right memory (r ∷ rs) zero (fit & fits) = gives (fit, λ w p q. simp (p, q))
-region_at_lem right memory (r ∷ rs) (suc j) (fit & fits) =
-    gives_map (λ _ h. (h.0, λ w p q. or_right (covers r w && right r) _ (h.1 w p q))) (region_at_lem right memory rs j fits)
+-- a word of region j, which passes a test
+pub record Within (policy : Policy) (test : Region → Bool) (j w : ℕ) : Type 0 where
+  pub region : Region
+  pub listed : get_elem? policy.regions j ≡ some region
+  pub passes : test region ≡ true
+  pub covered : covers region w ≡ true
+
+module _ {policy : Policy} (fit : RegionsFit policy) where
+  fitting : Fitting policy
+  unfolding Fitting
+  fitting j r e = every_at j fit.each e
+
+  region_inside : (j : ℕ) (r : Region) → get_elem? policy.regions j ≡ some r → r.base + r.size ≤ policy.memory
+  unfolding Fitting region_fits
+  region_inside j r e = leb-true _ _ (and_right (leb 1 r.rights && leb 1 r.size) _ (fitting j r e))
+
+  readable_within : {j : ℕ} {w : ℕ} → Within policy may_read j w → readable_word policy w ≡ true
+  unfolding readable_word
+  readable_within {j} {w} h =
+      let below = ltb-true w (h.region.base + h.region.size) (and_right (leb h.region.base w) _ h.covered) in
+      and_both _ _ (lt-ltb w policy.memory (omega (arith, region_inside j h.region h.listed)))
+      (given_some may_read w policy.regions j h.region h.listed h.covered h.passes)
+
+  writable_within : {j : ℕ} {w : ℕ} → Within policy (writable_region policy.regions) j w → writable_word policy w ≡ true
+  unfolding WhollyWritable
+  writable_within {j} {w} h = (wholly_writable policy fitting j h.region h.listed).0 h.passes w h.covered
 
 -- ---- the rules
 
@@ -265,29 +283,31 @@ module _ (policy : Policy) (fit : RegionsFit policy) (g : Goal) (env : ℕ → �
 
   -- ---- rules 22 to 24
 
-  -- a word between the bounds of a region that has the right
-  region_sound : (right : Region → Bool) (j : ℕ) (t : Term)
-      → Gives
-      (λ atoms. AllHold env atoms → (ltb (eval env t) policy.memory && some_region right policy.regions (eval env t)) ≡ true)
-      (region_premises policy right j t)
-  unfolding region_premises AllHold Holds Compares eval region_fits
-  region_sound right j t =
-      gives_then (region_at_lem right policy.memory policy.regions j fit.each) λ r h.
-      gives_then (gives_check (right r) misfit) λ _ e.
-      let inside : r.base + r.size ≤ policy.memory = leb-true _ _ (search (and_left, and_right)) in
+  -- a word between the bounds of a region that passes the rule's test
+  region_sound : (test : Region → Bool) (j : ℕ) (t : Term)
+      → Gives (λ atoms. AllHold env atoms → Within policy test j (eval env t)) (region_premises policy test j t)
+  unfolding region_premises AllHold Holds Compares eval
+  region_sound test j t =
+      gives_then (gives_found (get_elem? policy.regions j) misfit) λ r l.
+      gives_then (gives_check (test r) misfit) λ _ e.
+      let inside = region_inside fit j r l in
       gives λ p.
-      let covered = and_both _ _ (le-leb r.base (eval env t) (omega arith)) (lt-ltb (eval env t) (r.base + r.size) (omega arith)) in
-      and_both _ _ (lt-ltb (eval env t) policy.memory (omega arith)) (h.1 (eval env t) covered e)
+      record {
+        region = r;
+        listed = l;
+        passes = e;
+        covered = and_both _ _ (le-leb r.base (eval env t) (omega arith)) (lt-ltb (eval env t) (r.base + r.size) (omega arith));
+      }
 
   in_readable_region_sound : (j : ℕ) → SoundRule (in_readable_region j)
-  unfolding premises readable_word
+  unfolding premises
   in_readable_region_sound j c =
-      gives_then (readable_of_lem policy env c) λ t enough. gives_map (λ _ k p. enough (k p)) (region_sound may_read j t)
+      gives_then (readable_of_lem policy env c) λ t enough. gives_map (λ _ k p. enough (readable_within fit (k p))) (region_sound may_read j t)
 
   in_writable_region_sound : (j : ℕ) → SoundRule (in_writable_region j)
-  unfolding premises writable_word
+  unfolding premises
   in_writable_region_sound j c =
-      gives_then (writable_of_lem policy env c) λ t enough. gives_map (λ _ k p. enough (k p)) (region_sound may_write j t)
+      gives_then (writable_of_lem policy env c) λ t enough. gives_map (λ _ k p. enough (writable_within fit (k p))) (region_sound (writable_region policy.regions) j t)
 
   contradiction_sound : (m : Term) → SoundRule (contradiction m)
   unfolding premises AllHold Holds Compares

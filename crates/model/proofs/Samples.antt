@@ -1,7 +1,7 @@
 -- The samples: evaluated by the definitions, each has the answer that document 01, or 02, gives. Assumes nothing.
 use mathlib.Core.Bool.{true}
 use mathlib.Core.Path.{◌≡◌, refl}
-use Rattle.model.specs.Samples.{all_right, samples, packaged, mask_samples}
+use Rattle.model.specs.Samples.{all_right, samples, packaged, mask_samples, table_samples}
 
 -- every sample that is marked (P) has its answer
 pub samples_right : all_right samples ≡ true
@@ -11,3 +11,7 @@ samples_right = refl
 pub masks_right : all_right mask_samples ≡ true
 unfolding all_right packaged
 masks_right = refl
+
+pub tables_right : all_right table_samples ≡ true
+unfolding all_right packaged
+tables_right = refl

@@ -6,6 +6,7 @@ pub mod Atom
 pub mod Field
 pub mod Expression
 pub mod Policy
+pub mod Rights
 pub mod Instruction
 pub mod Package
 pub mod Annotation

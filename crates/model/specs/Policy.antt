@@ -1,5 +1,5 @@
 -- The policy: its reading with refusals 3 to 6, and the words that it makes readable and writable. Assumes nothing.
-use Rattle.std.specs.Prelude.{ℕ, zero, suc, ◌+◌, ◌*◌, ◌/◌, ◌%◌, Bool, false, ◌&&◌, ◌||◌, List, [], ◌∷◌, length, leb, ltb, eqb}
+use Rattle.std.specs.Prelude.{ℕ, zero, suc, ◌+◌, ◌*◌, ◌/◌, ◌%◌, Bool, true, false, not, ◌&&◌, ◌||◌, List, [], ◌∷◌, length, leb, ltb, eqb}
 use Rattle.model.specs.Result.{Result, Ok, ◌>>=◌, check, map_err}
 use Rattle.model.specs.Word.{le32}
 use Rattle.model.specs.Atom.{Atom, most_atoms}
@@ -30,17 +30,31 @@ may_write r = eqb r.rights 2 || eqb r.rights 3
 abbrev pub covers : Region → ℕ → Bool
 covers r w = leb r.base w && ltb w (r.base + r.size)
 
--- "a word has every right that some region over it gives"
+-- two regions have a word in common
+abbrev pub overlaps : Region → Region → Bool
+overlaps r q = ltb r.base (q.base + q.size) && ltb q.base (r.base + r.size)
+
+-- "a word has every right that some region over it gives": of reading; of writing S-2 asks for more
 unfoldable pub some_region : (Region → Bool) → List Region → ℕ → Bool
 some_region right [] w = false
 some_region right (r ∷ rs) w = (covers r w && right r) || some_region right rs w
+
+-- every region of a kind has the write right: none "lacks it"
+unfoldable pub all_writable : (kind : Region → Bool) → List Region → Bool
+all_writable kind [] = true
+all_writable kind (r ∷ rs) = (not (kind r) || may_write r) && all_writable kind rs
 
 -- "M and above have none"
 unfoldable pub readable_word : Policy → ℕ → Bool
 readable_word policy w = ltb w policy.memory && some_region may_read policy.regions w
 
+-- "a word is writable if a region over it has the write right and no region over it lacks it"
 unfoldable pub writable_word : Policy → ℕ → Bool
-writable_word policy w = ltb w policy.memory && some_region may_write policy.regions w
+writable_word policy w = ltb w policy.memory && some_region may_write policy.regions w && all_writable (λ r. covers r w) policy.regions
+
+-- "Rule 23 fits only if region j overlaps no region without the write right"
+unfoldable pub writable_region : List Region → Region → Bool
+writable_region regions r = may_write r && all_writable (overlaps r) regions
 
 -- ---- reading
 

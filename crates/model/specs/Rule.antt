@@ -5,7 +5,7 @@ use Rattle.model.specs.Result.{Fit, misfit, Err, Ok, ◌>>=◌, check, found}
 use Rattle.model.specs.Word.{shift_w}
 use Rattle.model.specs.Term.{Term, constant, variable, sum, difference, mask, shift, closed, root_of, eq_term}
 use Rattle.model.specs.Atom.{Atom, equal, unequal, less, at_most, holds, tag_of, eq_atom}
-use Rattle.model.specs.Policy.{Policy, may_read, may_write}
+use Rattle.model.specs.Policy.{Policy, may_read, writable_region}
 use Rattle.model.specs.declared.Region.{Region}
 use Rattle.model.specs.Goals.{Claim, atom, readable, writable, Goal}
 use Rattle.model.specs.Linear.{same_form}
@@ -149,11 +149,11 @@ congruent (shift count a) u = do
 -- ---- the rules
 
 module _ (policy : Policy) where
-  -- "base ≤ t, t < base plus length (one constant), region j having that right"
-  unfoldable pub region_premises : (Region → Bool) → (j : ℕ) → Term → Fit (List Atom)
-  region_premises right j t = do
+  -- "base ≤ t, t < base plus length (one constant), region j having that right", which is a test of the region
+  unfoldable pub region_premises : (test : Region → Bool) → (j : ℕ) → Term → Fit (List Atom)
+  region_premises test j t = do
     r ← found (get_elem? policy.regions j) misfit
-    _ ← check (right r) misfit
+    _ ← check (test r) misfit
     Ok (at_most (constant r.base) t ∷ less t (constant (r.base + r.size)) ∷ [])
 
 module _ (policy : Policy) (g : Goal) where
@@ -245,7 +245,7 @@ module _ (policy : Policy) (g : Goal) where
     region_premises policy may_read j t
   premises (in_writable_region j) c = do
     t ← writable_of c
-    region_premises policy may_write j t
+    region_premises policy (writable_region policy.regions) j t
   premises (contradiction m) c = Ok (less m m ∷ [])
   -- "25, a masked with b ≤ b; 26, a shifted ≤ a; 27, a shifted by s ≤ c, one constant whose value is 4294967295 shifted right by s"
   premises mask_at_most c = do

@@ -8,7 +8,7 @@ use Rattle.model.specs.Term.{eval, size, closed, eq_term, substitute}
 use Rattle.model.specs.Atom.{compares, holds, tag_of, eq_atom, substitute_atom}
 use Rattle.model.specs.Field.{byte_at, half_at, word_at}
 use Rattle.model.specs.Expression.{node_of, nodes_at, expression_at, atom_at, atoms_at}
-use Rattle.model.specs.Policy.{some_region, readable_word, writable_word, region_fits, policy_refusal, sizes_of, region_at, regions_from, read_policy}
+use Rattle.model.specs.Policy.{some_region, all_writable, readable_word, writable_word, writable_region, region_fits, policy_refusal, sizes_of, region_at, regions_from, read_policy}
 use Rattle.model.specs.Instruction.{provided, decode, target_of, target_inside}
 use Rattle.model.specs.Package.{read_header, instructions_from, read_code, code_of}
 use Rattle.model.specs.Annotation.{annotation_at, annotation_refusal, annotation_from, annotations_from, read_annotations}
@@ -31,7 +31,7 @@ abbrev pub Answer : Type 0
 Answer = ℕ × ℕ × ℕ
 
 unfoldable pub answer_of : Input → Answer
-unfolding ◌>>=◌ check found map_err number_of place_of add_w sub_w mask_w shift_w le16 le32 eval size closed eq_term substitute compares holds tag_of eq_atom substitute_atom byte_at half_at word_at node_of nodes_at expression_at atom_at atoms_at some_region readable_word writable_word region_fits policy_refusal sizes_of region_at regions_from read_policy provided decode target_of target_inside read_header instructions_from read_code code_of annotation_at annotation_refusal annotation_from annotations_from read_annotations target_annotated targets_annotated read_routine execute step goals append arrival returning small_enough assign at_target jump branch move landing tracing walk entry_block annotation_block annotation_blocks trace_of constant_of coefficient_of variable_bound variables_below opaque_terms indeterminates same_coefficients same_form atom_of sides_of readable_of writable_of pair_of sum_of difference_of mask_of shift_of equal_pairs congruent region_premises premises proof_refusal rule_at derive_all derive answered judge read_inputs check_of run_from read_start run_of
+unfolding ◌>>=◌ check found map_err number_of place_of add_w sub_w mask_w shift_w le16 le32 eval size closed eq_term substitute compares holds tag_of eq_atom substitute_atom byte_at half_at word_at node_of nodes_at expression_at atom_at atoms_at some_region all_writable readable_word writable_word writable_region region_fits policy_refusal sizes_of region_at regions_from read_policy provided decode target_of target_inside read_header instructions_from read_code code_of annotation_at annotation_refusal annotation_from annotations_from read_annotations target_annotated targets_annotated read_routine execute step goals append arrival returning small_enough assign at_target jump branch move landing tracing walk entry_block annotation_block annotation_blocks trace_of constant_of coefficient_of variable_bound variables_below opaque_terms indeterminates same_coefficients same_form atom_of sides_of readable_of writable_of pair_of sum_of difference_of mask_of shift_of equal_pairs congruent region_premises premises proof_refusal rule_at derive_all derive answered judge read_inputs check_of run_from read_start run_of
 answer_of (to_checker policy_bytes package_bytes) =
     let v = check_of 16384 policy_bytes package_bytes in
     (v.number, v.place, v.goals)
@@ -198,4 +198,39 @@ mask_samples =
     ∷ sample (to_checker (policy_s 8) package_shifted) 14 7 0
     ∷ sample (to_runner (policy_s 1) package_test (0 ∷ 61680 ∷ 15 ∷ replicate 13 0) (0 ∷ []) 9) 0 4 4
     ∷ sample (to_runner (policy_s 1) package_test (0 ∷ 61680 ∷ 14 ∷ replicate 13 0) (0 ∷ []) 9) 21 3 3
+    ∷ []
+
+-- a policy of three words with two regions, region 0 from word 0 on, step limit 3, by the region's extents and the second base
+abbrev pub policy_two : (extent base extent' : ℕ) → List ℕ
+policy_two extent base extent' = 0x02 ∷ 0x00 ∷ 0x00 ∷ 0x00 ∷ whole 3 ++ whole 3 ++ whole 0 ++ whole base ++ whole extent ++ whole extent'
+
+-- 1 := 0; an access to Mem[1 + i]; return; the access's goal by its rule and region 0
+abbrev pub package_access : (operation rule i : ℕ) → List ℕ
+package_access operation rule i = packaged (coded 0 1 0 0 0 ∷ coded operation 0 1 0 i ∷ coded 9 0 0 0 0 ∷ []) 0 [] (rule ∷ 0x00 ∷ 0x03 ∷ 0x03 ∷ 0x02 ∷ [])
+
+abbrev pub package_load : (i : ℕ) → List ℕ
+package_load = package_access 4 0x16
+
+abbrev pub package_store : (i : ℕ) → List ℕ
+package_store = package_access 5 0x17
+
+abbrev pub run_two : (extent' : ℕ) → List ℕ → Input
+run_two extent' bytes = to_runner (policy_two 0x0b 1 extent') bytes (replicate 16 0) (0 ∷ 0 ∷ 0 ∷ []) 9
+
+-- S-2: region 0 gives both rights to words 0 and 1
+abbrev pub table_samples : List Sample
+table_samples =
+    -- a read-only region over word 1: no store by region 0, not even to word 0, though the machine lets that through
+    sample (to_checker (policy_two 0x0b 1 0x05) (package_store 0)) 16 36 0
+    ∷ sample (run_two 0x05 (package_store 0)) 0 2 3
+    ∷ sample (run_two 0x05 (package_store 1)) 21 1 1
+    ∷ sample (run_two 0x05 (package_load 1)) 0 2 3
+    -- the same beside region 0; a region to read and write over word 1
+    ∷ sample (to_checker (policy_two 0x0b 2 0x05) (package_store 1)) 0 0 2
+    ∷ sample (to_checker (policy_two 0x0b 1 0x07) (package_store 1)) 0 0 2
+    -- a region to write only over word 1 protects neither from stores nor from loads
+    ∷ sample (to_checker (policy_two 0x0b 1 0x06) (package_store 1)) 0 0 2
+    ∷ sample (to_checker (policy_two 0x0b 1 0x06) (package_load 1)) 0 0 2
+    -- a word that no region lies over
+    ∷ sample (run_two 0x05 (package_store 2)) 21 1 1
     ∷ []

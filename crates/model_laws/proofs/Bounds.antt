@@ -14,7 +14,7 @@ use Rattle.model.specs.declared.Refusal.{Refusal}
 use Rattle.model.specs.declared.Refusal.TheVariants.{UnfitRule}
 use Rattle.model.specs.Term.{Term, constant, variable, sum, difference, mask, shift, root_of}
 use Rattle.model.specs.Linear.{variable_bound}
-use Rattle.model.specs.Policy.{Policy, may_read, may_write}
+use Rattle.model.specs.Policy.{Policy, may_read, writable_region}
 use Rattle.model.specs.Goals.{Goal, Claim as Claimed, atom, readable, writable}
 use Rattle.model.specs.Rule.{Rule, Format, plain, with_index, with_term, with_region, rules, atom_of, sides_of, readable_of, writable_of, pair_of, sum_of, difference_of, mask_of, shift_of, equal_pairs, congruent, region_premises, premises}
 use Rattle.model.specs.Rule.{from_assumption, equal_reflexive, at_most_reflexive, evaluation, equal_symmetric, equal_transitive, at_most_transitive, less_at_most, at_most_less, at_most_of_less, at_most_of_equal, congruence, linear, zero_at_most, sum_monotone, difference_monotone, successor_at_most, below_successor, sum_no_overflow, less_of_at_most, unequal_of_less, unequal_symmetric, in_readable_region, in_writable_region, contradiction, mask_at_most, shift_at_most, shift_bounded}
@@ -189,7 +189,7 @@ module _ (n : ℕ) where
     premises_bounded unequal_of_less c r h = gives_then (sides_bounded _ c h) λ s k. gives (k & empty)
     premises_bounded unequal_symmetric c r h = gives_then (sides_bounded _ c h) λ s k. gives ((k.1, k.0) & empty)
     premises_bounded (in_readable_region j) c r h = gives_then (access_bounded c h).0 λ t k. region_bounded policy may_read j t k
-    premises_bounded (in_writable_region j) c r h = gives_then (access_bounded c h).1 λ t k. region_bounded policy may_write j t k
+    premises_bounded (in_writable_region j) c r h = gives_then (access_bounded c h).1 λ t k. region_bounded policy (writable_region policy.regions) j t k
     premises_bounded (contradiction m) c r h = gives ((r, r) & empty)
     premises_bounded mask_at_most c r h = gives_next λ _ _. gives_next λ _ _. gives_next λ _ _. gives empty
     premises_bounded shift_at_most c r h = gives_next λ _ _. gives_next λ _ _. gives_next λ _ _. gives empty

@@ -11,7 +11,7 @@ use std::time::Duration;
 
 use generator::assemble::{package, Instruction, Policy, Region, READ, WRITE};
 use generator::random::Random;
-use generator::routine::{plain_sample, sample, Sample};
+use generator::routine::{field_sample, plain_sample, protected_table, sample, Sample};
 use generator::worst::worst_cases;
 
 mod stack;
@@ -64,17 +64,26 @@ fn checks() -> Vec<Check> {
     let policy = plain_policy(1, 1).encode();
     add("accepted: a return", &policy, &package(&[Instruction::Return], 0, &[], &[2]));
     for segments in [1, 2, 4, 8, 12, 16, 20, 24] {
-        if let Some(sample) = accepted(plain_sample, segments) {
+        if let Some(sample) = accepted(plain_sample, |_| true, segments) {
             let name = format!("accepted: random routine, segments: {segments}");
             add(&name, &sample.policy_bytes(), &sample.package_bytes());
         }
     }
     for segments in [1, 4, 12, 24] {
-        if let Some(sample) = accepted(sample, segments) {
+        if let Some(sample) = accepted(field_sample, |_| true, segments) {
             let name = format!("accepted: with masks and shifts, segments: {segments}");
             add(&name, &sample.policy_bytes(), &sample.package_bytes());
         }
     }
+    for segments in [8, 16, 24] {
+        if let Some(sample) = accepted(sample, stores_beside_protected, segments) {
+            let name = format!("accepted: with protected words, segments: {segments}");
+            add(&name, &sample.policy_bytes(), &sample.package_bytes());
+        }
+    }
+    let table = protected_table(1_000);
+    let name = "accepted: farm codes between writable words";
+    add(name, &table.policy_bytes(), &table.package_bytes());
     for worst in worst_cases() {
         let kind = if worst.number == 0 { "accepted" } else { "refused" };
         add(&format!("{kind}: {}", worst.name), &worst.policy, &worst.package);
@@ -90,14 +99,25 @@ fn checks() -> Vec<Check> {
     inputs
 }
 
-/// The first of some random routines that is accepted.
-fn accepted(make: fn(&mut Random, usize) -> Sample, segments: usize) -> Option<Sample> {
+/// The first of some random routines that is wanted and accepted.
+fn accepted(
+    make: fn(&mut Random, usize) -> Sample,
+    wanted: fn(&Sample) -> bool,
+    segments: usize,
+) -> Option<Sample> {
     let mut random = Random::new(segments as u64);
     let mut workspace = vec![0; reference::WORKSPACE_WORDS];
     (0..200).map(|_| make(&mut random, segments)).find(|sample| {
         let (policy, package) = (sample.policy_bytes(), sample.package_bytes());
-        reference::check(&mut workspace, &policy, &package).number == 0
+        wanted(sample) && reference::check(&mut workspace, &policy, &package).number == 0
     })
+}
+
+/// Whether a routine stores, under a policy with a region that lacks the right to.
+fn stores_beside_protected(sample: &Sample) -> bool {
+    let store = |instruction: &Instruction| matches!(instruction, Instruction::Store { .. });
+    sample.policy.regions.iter().any(|region| region.rights == READ)
+        && sample.routine.code.iter().any(store)
 }
 
 fn plain_policy(memory: u32, regions: usize) -> Policy {
@@ -239,6 +259,21 @@ fn runs() -> Vec<Run> {
         Instruction::Store { d: 2, a: 6, i: 389 },
     ];
     add("memory, 8 regions, 200000 rounds", &regions, &counting(&far), 200_000);
+    // all eight are over the word, or seven of them lack the right and are elsewhere
+    let stores = [
+        Instruction::Store { d: 2, a: 6, i: 310 },
+        Instruction::Store { d: 3, a: 6, i: 330 },
+        Instruction::Store { d: 4, a: 6, i: 389 },
+    ];
+    let over = plain_policy(16_384, 8);
+    add("stores, 8 regions over the word, 200000 rounds", &over, &counting(&stores), 200_000);
+    for region in &mut regions.regions[..7] {
+        region.rights = READ;
+    }
+    let name = "stores, 7 regions for loads elsewhere, 200000 rounds";
+    add(name, &regions, &counting(&stores), 200_000);
+    let table = protected_table(1_000);
+    add("farm codes between writable words", &table.policy, &table.routine.code, 0);
     inputs
 }
 

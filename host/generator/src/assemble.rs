@@ -20,6 +20,24 @@ pub struct Region {
     pub rights: u32,
 }
 
+impl Region {
+    /// Whether a word is in the region.
+    pub fn contains(&self, address: u32) -> bool {
+        (self.base..self.base + self.length).contains(&address)
+    }
+
+    /// Whether rule 22 (for the right to load) or 23 (to store) may name the region: it has the
+    /// right and, to store, shares no word with one of the policy's regions that lacks it.
+    pub fn fits(&self, right: u32, regions: &[Region]) -> bool {
+        let shares = |other: &Region| {
+            self.base < other.base + other.length && other.base < self.base + self.length
+        };
+        let lacks = |region: &Region| region.rights & right == 0;
+        !lacks(self)
+            && (right == READ || !regions.iter().any(|other| lacks(other) && shares(other)))
+    }
+}
+
 /// A policy.
 #[derive(Clone, Debug)]
 pub struct Policy {

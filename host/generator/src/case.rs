@@ -6,6 +6,7 @@ use crate::assemble::{package, Instruction, Policy};
 use crate::damage::{damaged_package, damaged_policy, every_change, every_repaired_change};
 use crate::hostile::hostile_cases;
 use crate::random::Random;
+use crate::regions::table_case;
 use crate::routine::sample;
 use crate::shapes::shape_case;
 use crate::term::{Comparison, Term};
@@ -44,7 +45,7 @@ const LONG: u32 = 20_000;
 const SHORT: usize = 400;
 
 /// All cases of a seed: first the fixed ones (limits and worst cases), then random samples with
-/// damage, and single rules. One sample of some is damaged in every place.
+/// damage, single rules, and tables. One sample of some is damaged in every place.
 #[derive(Debug)]
 pub struct Cases {
     random: Random,
@@ -91,6 +92,7 @@ impl Cases {
             self.queue.push_back((name("damaged policy"), damaged, bytes.clone()));
         }
         self.queue.extend((0..24).map(|_| shape_case(random)));
+        self.queue.extend((0..12).map(|_| table_case(random)));
         self.queue.push_back((name("noise"), policy.clone(), noise(random)));
         self.queue.push_back((name("code"), policy.clone(), random_code(&sample.policy, random)));
         if bytes.len() <= SHORT && number.is_multiple_of(16) {

@@ -71,7 +71,7 @@ pub fn damaged_package(package: &[u8], random: &mut Random) -> Vec<u8> {
     };
     let annotations = section..proof;
     let derivations = proof..package.len();
-    match random.below(14) {
+    match random.below(15) {
         0 | 1 => return damaged_bytes(package, random),
         // a byte of the annotations or of the proof
         2 | 3 if !derivations.is_empty() => {
@@ -140,6 +140,15 @@ pub fn damaged_package(package: &[u8], random: &mut Random) -> Vec<u8> {
             if !tags.is_empty() {
                 let tag = *random.pick(&tags);
                 bytes[tag + 1..tag + 5].copy_from_slice(&random.word().to_le_bytes());
+            }
+        }
+        // another region behind rule 22 or 23
+        14 => {
+            let rules: Vec<usize> = (proof..package.len().saturating_sub(1))
+                .filter(|&at| matches!(bytes[at], 22 | 23))
+                .collect();
+            if !rules.is_empty() {
+                bytes[*random.pick(&rules) + 1] = random.below(6) as u8;
             }
         }
         _ => return damaged_bytes(package, random),

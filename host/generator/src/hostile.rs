@@ -39,6 +39,7 @@ fn nested(count: usize, to_the_left: bool) -> Rc<Term> {
 pub fn hostile_cases() -> Vec<Named> {
     let mut cases = Vec::new();
     policies(&mut cases);
+    protected_words(&mut cases);
     packages(&mut cases);
     annotations(&mut cases);
     expressions(&mut cases);
@@ -98,6 +99,45 @@ fn policies(cases: &mut Vec<Named>) {
     bytes.resize(70_000, 0);
     cases.push(("a long policy".into(), bytes, sound));
     cases.push(("nothing".into(), Vec::new(), Vec::new()));
+}
+
+/// A region in every position to another one, and one of eight that lacks the right to store.
+fn protected_words(cases: &mut Vec<Named>) {
+    let mut add = |name: String, regions: Vec<Region>, words: &[u32], number: usize| {
+        let policy = Policy { memory: 6, regions, ..policy() };
+        cases.push((name, policy.encode(), storing(words, number as u8)));
+    };
+    let table = Region { base: 2, length: 2, rights: READ | WRITE };
+    for (base, length) in (0..6).flat_map(|base| (1..=6 - base).map(move |length| (base, length))) {
+        for rights in READ..=READ | WRITE {
+            let other = Region { base, length, rights };
+            let name = format!("a table and a region {base} {length} {rights}");
+            add(name.clone(), vec![table, other], &[2, 3], 0);
+            add(name, vec![other, table], &[2, 3], 1);
+        }
+    }
+    let table = Region { base: 1, length: 4, rights: WRITE };
+    for (lacking, number) in (0..8).flat_map(|lacking| (0..8).map(move |number| (lacking, number)))
+    {
+        // over the last word, and behind it
+        for base in [4, 5] {
+            let mut regions = vec![table; 8];
+            regions[lacking] = Region { base, length: 1, rights: READ };
+            let name = format!("region {number} of 8, {lacking} for loads from {base}");
+            add(name, regions, &[1, 3, 4], number);
+        }
+    }
+}
+
+/// Stores at some words, each by rule 23 with one region.
+fn storing(words: &[u32], region: u8) -> Vec<u8> {
+    let stores = words.iter().flat_map(|&word| {
+        [Instruction::Constant { d: 1, i: word }, Instruction::Store { d: 2, a: 1, i: 0 }]
+    });
+    let code: Vec<Instruction> = stores.chain([Instruction::Return]).collect();
+    let mut proof = [23, region, 3, 3].repeat(words.len());
+    proof.push(3);
+    package(&code, 0, &[], &proof)
 }
 
 fn packages(cases: &mut Vec<Named>) {

@@ -14,6 +14,7 @@ pub mod derivation;
 pub mod goals;
 pub mod hostile;
 pub mod random;
+pub mod regions;
 pub mod routine;
 pub mod search;
 pub mod shapes;

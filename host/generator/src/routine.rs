@@ -10,7 +10,8 @@ use std::rc::Rc;
 use crate::assemble::{Annotation, Instruction, Policy, Region, Routine, READ, WRITE};
 use crate::goals::{goals, Origin};
 use crate::random::Random;
-use crate::search::search_all;
+use crate::regions::{any_regions, table_regions};
+use crate::search::{search_all, Found};
 use crate::term::{balanced_sum, constant, difference, mask, shift, sum, variable};
 use crate::term::{Atom, Comparison, Term};
 
@@ -44,19 +45,33 @@ impl Sample {
     }
 }
 
+/// What a random sample may have.
+#[derive(Clone, Copy, Debug)]
+struct Kind {
+    /// Masks and shifts.
+    fields: bool,
+    /// Tables with protected words, which most stores leave alone.
+    tables: bool,
+}
+
 /// A random sample of about so many segments.
 pub fn sample(random: &mut Random, segments: usize) -> Sample {
-    sample_with(random, segments, true)
+    sample_with(random, segments, Kind { fields: true, tables: true })
 }
 
-/// A random sample of about so many segments, without masks and shifts.
+/// A random sample of about so many segments, with masks and shifts and with any regions.
+pub fn field_sample(random: &mut Random, segments: usize) -> Sample {
+    sample_with(random, segments, Kind { fields: true, tables: false })
+}
+
+/// A random sample of about so many segments, without masks and shifts and with any regions.
 pub fn plain_sample(random: &mut Random, segments: usize) -> Sample {
-    sample_with(random, segments, false)
+    sample_with(random, segments, Kind { fields: false, tables: false })
 }
 
-fn sample_with(random: &mut Random, segments: usize, fields: bool) -> Sample {
+fn sample_with(random: &mut Random, segments: usize, kind: Kind) -> Sample {
     loop {
-        let mut builder = Builder::new(random, fields);
+        let mut builder = Builder::new(random, kind);
         builder.segments(segments, 2);
         let (mut policy, mut routine) = builder.finish();
         if let Some((proof, proved)) = prove(&mut policy, &mut routine, random) {
@@ -66,6 +81,45 @@ fn sample_with(random: &mut Random, segments: usize, fields: bool) -> Sample {
             }
         }
     }
+}
+
+/// A loop over three columns of so many rows, side by side: tallies, codes, which are protected, and
+/// the last codes seen.
+pub fn protected_table(rows: u32) -> Sample {
+    let region = |number, rights| Region { base: number * rows, length: rows, rights };
+    let mut policy = Policy {
+        memory: 3 * rows,
+        limit: 8 * rows + 4,
+        regions: vec![region(0, READ | WRITE), region(1, READ), region(2, READ | WRITE)],
+        precondition: Vec::new(),
+        postcondition: vec![Atom::equal(&register(0), &constant(rows))],
+    };
+    let code = vec![
+        Instruction::Constant { d: 0, i: 0 },
+        Instruction::Constant { d: 1, i: rows },
+        Instruction::JumpIfEqual { a: 0, b: 1, target: 10 },
+        Instruction::Load { d: 2, a: 0, i: rows },
+        Instruction::Load { d: 3, a: 0, i: 0 },
+        Instruction::Add { d: 3, a: 3, b: 2 },
+        Instruction::Store { d: 3, a: 0, i: 0 },
+        Instruction::Store { d: 2, a: 0, i: 2 * rows },
+        Instruction::AddConstant { d: 0, a: 0, i: 1 },
+        Instruction::Jump { target: 2 },
+        Instruction::Return,
+    ];
+    let (index, all) = (register(0), constant(rows));
+    let each = balanced_sum(&vec![Rc::clone(&index); 8]).expect("at least one");
+    let credit = difference(&constant(8 * rows + 2), &each);
+    let atoms = vec![Atom::at_most(&index, &all), Atom::equal(&register(1), &all)];
+    let end = vec![Atom::equal(&index, &all)];
+    let annotations = vec![
+        Annotation { index: 2, credit, atoms },
+        Annotation { index: 10, credit: constant(1), atoms: end },
+    ];
+    let mut routine = Routine { code, annotations };
+    let found = prove(&mut policy, &mut routine, &mut Random::new(1));
+    let (proof, proved) = found.expect("evaluation refuses nothing");
+    Sample { policy, routine, proof, proved }
 }
 
 /// Searches a proof and takes out the atoms that have none. Nothing if evaluation refuses the
@@ -81,21 +135,23 @@ fn prove(
         let mut atoms: Vec<(Option<usize>, usize)> = Vec::new();
         for (task, derivation) in tasks.iter().zip(&found) {
             match (derivation, task.origin) {
-                (None, Origin::Annotation(number, atom)) => atoms.push((Some(number), atom)),
-                (None, Origin::Postcondition(atom)) => atoms.push((None, atom)),
+                (Found::Nothing, Origin::Annotation(number, atom)) => {
+                    atoms.push((Some(number), atom));
+                }
+                (Found::Nothing, Origin::Postcondition(atom)) => atoms.push((None, atom)),
                 _ => {}
             }
         }
         if atoms.is_empty() || random.chance(1, 40) {
             let mut proof = Vec::new();
             let mut proved = true;
-            for derivation in found {
-                match derivation {
-                    Some(derivation) => proof.extend(derivation.bytes),
-                    None => {
-                        proved = false;
-                        proof.push(random.below(28) as u8);
+            for found in found {
+                proved &= matches!(found, Found::Derived(_));
+                match found {
+                    Found::Derived(derivation) | Found::Misnamed(derivation) => {
+                        proof.extend(derivation.bytes);
                     }
+                    Found::Nothing => proof.push(random.below(28) as u8),
                 }
             }
             return Some((proof, proved));
@@ -131,8 +187,7 @@ struct Note {
 
 struct Builder<'a> {
     random: &'a mut Random,
-    /// Whether there are masks and shifts.
-    fields: bool,
+    kind: Kind,
     memory: u32,
     regions: Vec<Region>,
     precondition: Vec<Atom>,
@@ -155,22 +210,20 @@ fn register(number: u8) -> Rc<Term> {
 }
 
 impl<'a> Builder<'a> {
-    fn new(random: &'a mut Random, fields: bool) -> Self {
+    fn new(random: &'a mut Random, kind: Kind) -> Self {
         let memory = match random.below(5) {
             0 => random.within(1..=4),
             1 => random.within(1_000..=16_384),
             _ => random.within(8..=80),
         };
-        let mut regions = Vec::new();
-        for _ in 0..random.within(1..=4).max(if random.chance(1, 8) { 8 } else { 1 }) {
-            let base = random.within(0..=memory - 1);
-            let length = random.within(1..=memory - base);
-            let rights = if random.chance(1, 2) { READ | WRITE } else { random.within(1..=3) };
-            regions.push(Region { base, length, rights });
-        }
+        let regions = if kind.tables && random.chance(1, 2) {
+            table_regions(random, memory)
+        } else {
+            any_regions(random, memory)
+        };
         let mut builder = Builder {
             random,
-            fields,
+            kind,
             memory,
             regions,
             precondition: Vec::new(),
@@ -192,7 +245,7 @@ impl<'a> Builder<'a> {
             let d = self.any_register();
             let bound = self.random.word();
             let term = register(d);
-            let atom = match self.random.below(if self.fields { 7 } else { 6 }) {
+            let atom = match self.random.below(if self.kind.fields { 7 } else { 6 }) {
                 0 | 1 => {
                     self.ranges[usize::from(d)] = Some((0, bound));
                     Atom::at_most(&term, &constant(bound))
@@ -221,7 +274,7 @@ impl<'a> Builder<'a> {
         let mut postcondition: Vec<Atom> = Vec::new();
         let mut candidates = self.facts.clone();
         candidates.extend(self.range_facts());
-        candidates.extend(self.fields.then(|| self.field_fact()));
+        candidates.extend(self.kind.fields.then(|| self.field_fact()));
         self.random.shuffle(&mut candidates);
         postcondition.extend(candidates.into_iter().take(self.random.below(6)));
         self.emit(Instruction::Return);
@@ -369,7 +422,7 @@ impl<'a> Builder<'a> {
         let Some(d) = self.free_register() else { return };
         let (a, b) = (self.any_register(), self.any_register());
         let i = self.random.word();
-        let instruction = match self.random.below(if self.fields { 9 } else { 6 }) {
+        let instruction = match self.random.below(if self.kind.fields { 9 } else { 6 }) {
             0 | 1 => Instruction::Constant { d, i },
             2 => Instruction::Add { d, a, b },
             3 => Instruction::AddConstant { d, a, i },
@@ -416,9 +469,16 @@ impl<'a> Builder<'a> {
         }
     }
 
+    /// Whether the builder stores into a region; into one that does not fit it does so seldom.
+    fn stores_into(&mut self, region: &Region) -> bool {
+        let heeds = self.kind.tables && self.random.chance(19, 20);
+        region.rights & WRITE != 0 && (!heeds || region.fits(WRITE, &self.regions))
+    }
+
     /// A load or a store at an address that is known to be in a region.
     fn access(&mut self) {
-        let Region { base, length, rights } = *self.random.pick(&self.regions.clone());
+        let region = *self.random.pick(&self.regions);
+        let Region { base, length, rights } = region;
         let fitting: Vec<(u8, u32, u32)> = (0..REGISTERS)
             .filter_map(|number| {
                 let (low, high) = self.ranges[usize::from(number)]?;
@@ -440,11 +500,12 @@ impl<'a> Builder<'a> {
         };
         let room = length - 1 - (high - low);
         let i = (base + self.random.within(0..=room)).wrapping_sub(low);
-        let load = rights & READ != 0 && (rights & WRITE == 0 || self.random.chance(1, 2));
+        let stores = self.stores_into(&region);
+        let load = rights & READ != 0 && (!stores || self.random.chance(1, 2));
         if load && !spare.is_empty() {
             let d = *self.random.pick(&spare);
             self.emit(Instruction::Load { d, a, i });
-        } else if rights & WRITE != 0 {
+        } else if stores {
             let d = self.any_register();
             self.emit(Instruction::Store { d, a, i });
         }
@@ -508,7 +569,7 @@ impl<'a> Builder<'a> {
         }
         let mut candidates = self.facts.clone();
         candidates.extend(self.range_facts());
-        if self.fields {
+        if self.kind.fields {
             candidates.extend((0..self.random.below(3)).map(|_| self.field_fact()));
         }
         self.random.shuffle(&mut candidates);

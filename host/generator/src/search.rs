@@ -19,12 +19,19 @@ const FUEL: u32 = 3_000;
 /// How many assumptions one after the other a chain may use.
 const EFFORT: u32 = 3;
 
-/// Searches derivations of all goals; in the place of one that is not found there is nothing.
-pub fn search_all(
-    tasks: &[Task],
-    regions: &[Region],
-    random: &mut Random,
-) -> Vec<Option<Derivation>> {
+/// What the search has for a goal.
+#[derive(Clone, Debug)]
+pub enum Found {
+    /// A derivation.
+    Derived(Derivation),
+    /// A derivation by rule 23 but for the region that it names, which does not fit.
+    Misnamed(Derivation),
+    /// Nothing.
+    Nothing,
+}
+
+/// Searches derivations of all goals.
+pub fn search_all(tasks: &[Task], regions: &[Region], random: &mut Random) -> Vec<Found> {
     let mut search: Option<Search> = None;
     let mut current: Option<&Rc<Vec<Atom>>> = None;
     let mut found = Vec::with_capacity(tasks.len());
@@ -34,7 +41,7 @@ pub fn search_all(
             search = Some(Search::new(&task.assumptions, regions, random.number()));
             current = Some(&task.assumptions);
         }
-        found.push(search.as_mut().and_then(|search| search.derive(&task.goal)));
+        found.push(search.as_mut().map_or(Found::Nothing, |search| search.find(&task.goal)));
     }
     found
 }
@@ -194,6 +201,13 @@ impl<'a> Search<'a> {
         None
     }
 
+    fn find(&mut self, goal: &Goal) -> Found {
+        match self.derive(goal) {
+            Some(derivation) => Found::Derived(derivation),
+            None => self.misnamed(goal).map_or(Found::Nothing, Found::Misnamed),
+        }
+    }
+
     /// Searches a derivation of a goal.
     fn derive(&mut self, goal: &Goal) -> Option<Derivation> {
         if self.random.chance(1, 3) {
@@ -208,8 +222,8 @@ impl<'a> Search<'a> {
                     let found = self.atom(atom, EFFORT);
                     found.map(|derivation| self.varied(atom, derivation))
                 }
-                Goal::Readable(address) => self.access(22, address),
-                Goal::Writable(address) => self.access(23, address),
+                Goal::Readable(address) => self.access(22, address, true),
+                Goal::Writable(address) => self.access(23, address, true),
             };
             if let Some(derivation) = found {
                 if derivation.depth <= MAX_DEPTH {
@@ -225,15 +239,23 @@ impl<'a> Search<'a> {
         by_way_of(24, m, &[derivation])
     }
 
-    fn access(&mut self, number: u8, address: &Rc<Term>) -> Option<Derivation> {
+    /// A store by a region that does not fit.
+    fn misnamed(&mut self, goal: &Goal) -> Option<Derivation> {
+        let Goal::Writable(address) = goal else { return None };
+        self.access(23, address, false).filter(|derivation| derivation.depth <= MAX_DEPTH)
+    }
+
+    /// Rule 22 or 23 with a region that fits, or with one that does not.
+    fn access(&mut self, number: u8, address: &Rc<Term>, fitting: bool) -> Option<Derivation> {
         let right = if number == 22 { READ } else { WRITE };
         let mut numbers: Vec<usize> = (0..self.regions.len()).collect();
         self.random.shuffle(&mut numbers);
         numbers.into_iter().find_map(|candidate| {
-            let Region { base, length, rights } = self.regions[candidate];
-            if rights & right == 0 {
+            let named = self.regions[candidate];
+            if named.fits(right, self.regions) != fitting {
                 return None;
             }
+            let Region { base, length, .. } = named;
             self.fuel = FUEL;
             let low = self.at_most(&constant(base), address, EFFORT)?;
             let high = self.less(address, &constant(base + length), EFFORT)?;

@@ -174,6 +174,9 @@ pub fn worst_cases() -> Vec<Worst> {
         sums_and_differences(),
         growing_terms(),
         accesses(),
+        stores_under_regions_over_the_word(),
+        stores_beside_regions_without_the_right(),
+        last_store_in_a_region_partly_protected(),
         contradiction(),
         wide_chains(),
         long_arguments("5: arguments of 31 nodes", &leaves(0, 16)),
@@ -392,6 +395,52 @@ fn accesses() -> Worst {
     };
     let package = Routine { code, annotations: Vec::new() }.encode(&proof);
     Worst { name: "22, 23: loads and stores", policy: policy.encode(), package, number: 0 }
+}
+
+/// Rule 23 for as many stores as a package can have. The first number is the region of all but the
+/// last of them, whose region has the second.
+fn stores(name: &'static str, regions: Vec<Region>, named: [u8; 2], number: u32) -> Worst {
+    let i = 3;
+    let address = sum(&register(0), &constant(i));
+    let Region { base, length, .. } = regions[usize::from(named[0])];
+    let precondition = vec![
+        Atom::at_most(&constant(base), &address),
+        Atom::less(&address, &constant(base + length)),
+    ];
+    let mut code = vec![Instruction::Store { d: 2, a: 0, i }; 255];
+    code.push(Instruction::Return);
+    let by_region = |region| [23, region, 0, 0, 0, 0, 1, 0];
+    let mut proof = by_region(named[0]).repeat(254);
+    proof.extend(by_region(named[1]));
+    proof.push(3);
+    let policy =
+        Policy { memory: 64, limit: 1_000, regions, precondition, postcondition: Vec::new() };
+    let package = Routine { code, annotations: Vec::new() }.encode(&proof);
+    Worst { name, policy: policy.encode(), package, number }
+}
+
+/// Rule 23 under eight regions, all over one another.
+fn stores_under_regions_over_the_word() -> Worst {
+    let regions = vec![Region { base: 0, length: 64, rights: READ | WRITE }; 8];
+    stores("23: eight regions over the word", regions, [7, 7], 0)
+}
+
+/// Rule 23 with a region that seven others without the right touch.
+fn stores_beside_regions_without_the_right() -> Worst {
+    let mut regions = vec![Region { base: 8, length: 8, rights: READ | WRITE }];
+    for number in 1..8 {
+        let (base, length) = if number % 2 == 0 { (0, 8) } else { (16, 48) };
+        regions.push(Region { base, length, rights: READ });
+    }
+    stores("23: seven regions beside it lack the right", regions, [0, 0], 0)
+}
+
+/// Rule 23 whose last region shares a word with the last of eight, which lacks the right.
+fn last_store_in_a_region_partly_protected() -> Worst {
+    let mut regions = vec![Region { base: 0, length: 32, rights: READ | WRITE }; 7];
+    regions[1].length = 64;
+    regions.push(Region { base: 63, length: 1, rights: READ });
+    stores("23: the last region is partly protected", regions, [0, 1], 16)
 }
 
 /// A chain of rule 6 or 8 over constants: each link has the argument 0 and is left by evaluation.

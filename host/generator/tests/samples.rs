@@ -2,11 +2,11 @@
 
 use std::collections::BTreeMap;
 
-use generator::assemble::Instruction;
+use generator::assemble::{Instruction, Region, WRITE};
 use generator::case::Cases;
 use generator::goals::goals;
 use generator::random::Random;
-use generator::routine::sample;
+use generator::routine::{protected_table, sample};
 use generator::shapes::shape_case;
 
 #[test]
@@ -107,6 +107,78 @@ fn cases_meet_every_answer() {
     for number in [0, 2, 3, 4, 5, 6, 7, 8, 9, 20, 21, 22] {
         assert!(ends.contains_key(&number), "no run answers {number}");
     }
+}
+
+/// The regions of a policy that is not refused.
+fn regions(policy: &[u8]) -> Vec<Region> {
+    let count = usize::from(policy[0]);
+    let word = |index: usize| {
+        let bytes = policy[12 + 4 * index..].first_chunk().expect("four bytes");
+        u32::from_le_bytes(*bytes)
+    };
+    (0..count)
+        .map(|number| {
+            let extent = word(count + number);
+            Region { base: word(number), length: extent / 4, rights: extent % 4 }
+        })
+        .collect()
+}
+
+/// The operation of an instruction of a package, and its address over some registers.
+fn access(package: &[u8], index: usize, registers: &[u32]) -> (u8, u32) {
+    let count = usize::from(package[0]) + 256 * usize::from(package[1]);
+    let operation = &package[12 + 4 * index..];
+    let immediate = package[12 + 4 * (count + index)..].first_chunk().expect("four bytes");
+    let base = registers[usize::from(operation[2])];
+    (operation[0], base.wrapping_add(u32::from_le_bytes(*immediate)))
+}
+
+#[test]
+fn cases_meet_protected_words() {
+    let lacks = |region: &Region| region.rights & WRITE == 0;
+    // checks: a store beside protected words accepted, rule 23 refused; runs: a store into words
+    // that some region gives and another protects, a store into words of no writable region
+    let mut counts = [0; 4];
+    for case in Cases::new(4).take(6_000) {
+        let mut workspace = vec![1; case.workspace];
+        let verdict = reference::check(&mut workspace, &case.policy, &case.package);
+        if verdict.number == 0 && regions(&case.policy).iter().any(lacks) {
+            let count = usize::from(case.package[0]);
+            let mut operations = case.package[12..].chunks(4).take(count);
+            counts[0] += usize::from(operations.any(|operation| operation[0] == 5));
+        }
+        counts[1] += usize::from(verdict.number == 16 && case.package[verdict.place] == 23);
+        for start in case.starts {
+            let (mut registers, mut memory) = (start.registers, start.memory);
+            let (policy, package, budget) = (&case.policy, &case.package, start.budget);
+            let outcome = reference::run(policy, package, &mut registers, &mut memory, budget);
+            if outcome.number != 21 {
+                continue;
+            }
+            let (operation, address) = access(package, outcome.place, &registers);
+            if operation == 5 {
+                let given =
+                    regions(policy).iter().any(|region| !lacks(region) && region.contains(address));
+                counts[if given { 2 } else { 3 }] += 1;
+            }
+        }
+    }
+    println!("{counts:?}");
+    assert!(counts.iter().all(|&count| count >= 100), "{counts:?}");
+}
+
+#[test]
+fn protected_words_are_left_alone() {
+    let sample = protected_table(20);
+    let (policy, package) = (sample.policy_bytes(), sample.package_bytes());
+    let mut workspace = vec![0; reference::WORKSPACE_WORDS];
+    assert!(sample.proved);
+    assert_eq!(reference::check(&mut workspace, &policy, &package).number, 0);
+    let (mut registers, mut memory) = ([0; 16], (0..60).collect::<Vec<u32>>());
+    let outcome = reference::run(&policy, &package, &mut registers, &mut memory, 164);
+    assert_eq!((outcome.number, outcome.steps), (0, 164));
+    assert!((20..40).eq(memory[20..40].iter().copied()));
+    assert!((20..40).eq(memory[40..].iter().copied()));
 }
 
 #[test]

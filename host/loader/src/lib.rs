@@ -127,7 +127,8 @@ pub fn check(workspace: &mut [u32], policy: &[u8], package: &[u8]) -> Verdict {
 /// Runs `package` for at most `budget` steps from the registers and the memory given, checked or
 /// not; see [`Routine`] for one that is.
 ///
-/// They hold the machine's state afterwards, and are left as they were if a check refuses.
+/// They hold the machine's state afterwards, and are left as they were if a check refuses. In
+/// every run a memory word that the policy does not make writable keeps what it held.
 pub fn run(
     policy: &[u8],
     package: &[u8],

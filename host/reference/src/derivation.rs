@@ -236,11 +236,14 @@ impl<'a> Prover<'a> {
             22 | 23 => {
                 let number = usize::from(self.proof.byte().ok_or_else(|| self.missing())?);
                 let region = *self.regions.get(number).ok_or(misfit)?;
-                let address = match goal {
-                    Goal::Readable(address) if rule == 22 && region.readable => address,
-                    Goal::Writable(address) if rule == 23 && region.writable => address,
+                let (address, has_right) = match (rule, goal) {
+                    (22, Goal::Readable(address)) => (address, region.readable),
+                    (23, Goal::Writable(address)) => {
+                        (address, region.is_wholly_writable(self.regions))
+                    }
                     _ => return Err(misfit),
                 };
+                fit(has_right)?;
                 let base = self.terms.constant(region.base);
                 self.derive_at(level, Goal::new(AtMost, base, address))?;
                 let end = self.terms.constant(region.base + region.length);

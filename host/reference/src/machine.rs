@@ -12,11 +12,12 @@ pub struct Machine<'a> {
     code: Vec<Instruction>,
     readable: Rights,
     writable: Rights,
+    protected: Rights,
     registers: &'a mut [u32; REGISTERS],
     memory: &'a mut [u32],
 }
 
-/// The regions that give a right.
+/// The regions that give a right, or that lack one.
 #[derive(Debug, Default)]
 struct Rights {
     regions: [Region; 8],
@@ -24,9 +25,9 @@ struct Rights {
 }
 
 impl Rights {
-    fn new<'a>(regions: impl Iterator<Item = &'a Region>) -> Self {
+    fn new(policy: &Policy, belongs: impl Fn(&&Region) -> bool) -> Self {
         let mut rights = Rights::default();
-        for &region in regions {
+        for &region in policy.regions().iter().filter(belongs) {
             rights.regions[rights.count] = region;
             rights.count += 1;
         }
@@ -52,15 +53,16 @@ pub fn prepare<'a>(
     }
     let layout = Layout::read(package)?;
     let code = read_code(package, &layout)?;
-    let readable = Rights::new(policy.regions().iter().filter(|region| region.readable));
-    let writable = Rights::new(policy.regions().iter().filter(|region| region.writable));
-    Ok(Machine { code, readable, writable, registers, memory })
+    let readable = Rights::new(&policy, |region| region.readable);
+    let writable = Rights::new(&policy, |region| region.writable);
+    let protected = Rights::new(&policy, |region| !region.writable);
+    Ok(Machine { code, readable, writable, protected, registers, memory })
 }
 
 impl Machine<'_> {
     /// Runs from instruction 0 for at most `budget` steps.
     pub fn run(self, budget: u32) -> Outcome {
-        let Machine { code, readable, writable, registers, memory } = self;
+        let Machine { code, readable, writable, protected, registers, memory } = self;
         let mut state = Registers(*registers);
         let mut counter = 0;
         let mut steps = 0;
@@ -92,7 +94,7 @@ impl Machine<'_> {
                 }
                 Instruction::Store { d, a, i } => {
                     let address = state.get(a).wrapping_add(i);
-                    if !writable.cover(address) {
+                    if !writable.cover(address) || protected.cover(address) {
                         break 21;
                     }
                     memory[address as usize] = state.get(d);

@@ -22,6 +22,17 @@ impl Region {
     pub fn contains(&self, address: u32) -> bool {
         address.wrapping_sub(self.base) < self.length
     }
+
+    /// Whether some word is in both regions: then the base of one of them is in the other.
+    pub fn overlaps(&self, other: &Region) -> bool {
+        self.contains(other.base) || other.contains(self.base)
+    }
+
+    /// Whether the region has the write right and overlaps no region of the policy without it.
+    pub fn is_wholly_writable(&self, regions: &[Region]) -> bool {
+        let in_the_way = |other: &Region| !other.writable && self.overlaps(other);
+        self.writable && !regions.iter().any(in_the_way)
+    }
 }
 
 /// A policy that passes checks 3 to 6.

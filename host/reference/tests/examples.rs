@@ -1,4 +1,4 @@
-//! The example lines of `examples.txt`, which settle the open points of document 01.
+//! The example lines of `examples.txt`, which settle the open points of documents 01 and 02.
 
 mod common;
 

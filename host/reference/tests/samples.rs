@@ -119,6 +119,56 @@ fn masks_and_shifts_run() {
     assert_eq!(run_with(12, 10, 32), ([8, 1, 0], 12, 0));
 }
 
+/// A policy of four words with the regions given as (base, length, rights).
+fn policy_of(regions: &[(u32, u32, u32)]) -> Vec<u8> {
+    let mut bytes = vec![regions.len() as u8, 0, 0, 0, 4, 0, 0, 0, 3, 0, 0, 0];
+    bytes.extend(regions.iter().flat_map(|(base, _, _)| base.to_le_bytes()));
+    let extents = regions.iter().map(|(_, length, rights)| 4 * length + rights);
+    bytes.extend(extents.flat_map(u32::to_le_bytes));
+    bytes
+}
+
+/// Loads and stores at every word under every two regions, by the sets of their words.
+#[test]
+fn pairs_of_regions() {
+    let bases = (0..4).flat_map(|base| (1..=4 - base).map(move |length| (base, length)));
+    let regions: Vec<_> = bases
+        .flat_map(|(base, length)| (1..=3).map(move |rights| (base, length, rights)))
+        .collect();
+    for pair in regions.iter().flat_map(|&first| regions.iter().map(move |&other| [first, other])) {
+        let policy = policy_of(&pair);
+        for (op, rule, right) in [(4, 22, 1), (5, 23, 2)] {
+            let words = |(base, length, _)| ((1u32 << length) - 1) << base;
+            let over = |has: bool| {
+                let regions = pair.into_iter().filter(|region| (region.2 & right != 0) == has);
+                regions.fold(0, |all, region| all | words(region))
+            };
+            let protected = if op == 5 { over(false) } else { 0 };
+            for address in 0..4 {
+                let code = [([0, 1, 0, 0], address), ([op, 2, 1, 0], 0), RETURN];
+                let allowed = over(true) & !protected & 1 << address != 0;
+                let expected = if allowed { [0, 2, 3] } else { [21, 1, 1] };
+                let bytes = package(&code, &[], &[]);
+                assert_eq!(run(&policy, &bytes, &start(9, 20)).0, expected, "{pair:?} {address}");
+                for (number, region) in (0..).zip(pair) {
+                    let (base, length, rights) = region;
+                    let bytes = package(&code, &[], &[rule, number, 3, 3, 3]);
+                    let expected = if rights & right == 0 || words(region) & protected != 0 {
+                        [16, 36, 0]
+                    } else if address < base {
+                        [16, 38, 0]
+                    } else if address >= base + length {
+                        [16, 39, 0]
+                    } else {
+                        [0, 0, 2]
+                    };
+                    assert_eq!(check(&policy, &bytes), expected, "{pair:?} {address} {number}");
+                }
+            }
+        }
+    }
+}
+
 #[test]
 fn memory_sizes() {
     let package = package(&[RETURN], &[], &[2]);

@@ -4,7 +4,7 @@ use Rattle.pcc_run.proofs.run_on.Goals as goal
 pub returns : goal.returns
 returns c =
     laws.ran _ _ _ _ _ _ _ _ _
-    c.run.ensures
+    c.run.ensures.outcome
     c.words.ensures
     c.requires.registers_len
     c.words-2.ensures

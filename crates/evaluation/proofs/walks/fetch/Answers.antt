@@ -1,5 +1,0 @@
-use Rattle.evaluation.proofs.WalkLaws.{fetched}
-use Rattle.evaluation.proofs.walks.fetch.Goals as goal
-
-pub returns : goal.returns
-returns c = rw c.unwrap_or.ensures (fetched c.args.setting.now c.requires _ c.instruction.ensures.is c.instruction.ensures.formed)
