@@ -33,6 +33,10 @@ def equal(a, b):
     return bytes([0]) + a + b
 
 
+def unequal(a, b):
+    return bytes([1]) + a + b
+
+
 def at_most(a, b):
     return bytes([3]) + a + b
 
@@ -81,6 +85,7 @@ LINEAR = bytes([12])
 ZERO = bytes([13])
 MASKED_AT_MOST = bytes([25])
 SHIFTED_AT_MOST = bytes([27])
+UNEQUAL_CONSTANTS = bytes([28])
 
 
 def rule(number, *premises, m=b''):
@@ -316,3 +321,23 @@ write('farm_codes_one_region', policy(8, 13, DRAWN_AS_ONE), DRAWN_PACKAGE, ROWS_
 TOO_LOW = ROW_BY_CODE + counting(FIRST_ROW, 0, 1) + counting(SECOND_ROW, 0, 1)
 write('farm_code_written', policy(8, 13, DRAWN_AS_ONE), package(TOO_LOW, ROW_ANNOTATIONS, rows_proof(1, 2, 0, 0)), ROWS_START,
       f'verdict=16 place={FIRST_STORE} goals=8', 'run=21 place=17 steps=8')
+
+# ---- 12 past a base differs from 8 past it: by bounds of the base, which took a base of at most 3, and by the constants, of any base
+
+
+def past(base, n):
+    return add(base, const(n))
+
+
+# base <= 3, so base + 8 <= 3 + 8 <= 11
+AT_MOST_11 = rule(6, rule(14, assume(0), REFLEXIVE, EVALUATE), EVALUATE, m=add(const(3), const(8)))
+# 12 <= 0 + 12 <= base + 12, since base <= base + 12: base <= 3 <= 4294967295 - 12
+NO_WRAP = rule(18, rule(6, assume(0), EVALUATE, m=const(3)))
+AT_LEAST_12 = rule(6, EVALUATE, rule(14, ZERO, REFLEXIVE, NO_WRAP), m=add(const(0), const(12)))
+# base + 8 <= 11 < 12 <= base + 12, so base + 8 differs from base + 12, and base + 12 from base + 8
+BY_BOUNDS = rule(21, rule(20, rule(8, AT_MOST_11, rule(7, EVALUATE, AT_LEAST_12, m=const(12)), m=const(11))))
+
+APART = [unequal(past(var(1), 12), past(var(1), 8))] * 2 + [unequal(past(var(2), 12), past(var(2), 8))]
+write('past_a_base', policy(1, 1, [(0, 1, 1)], pre=[at_most(var(1), const(3))], post=APART),
+      package([instruction(9)], [], BY_BOUNDS + UNEQUAL_CONSTANTS + UNEQUAL_CONSTANTS + REFLEXIVE), start(1, [0, 3, 4294967285] + [0] * 13, [0]),
+      'verdict=0 place=0 goals=4', 'run=0 place=0 steps=1')

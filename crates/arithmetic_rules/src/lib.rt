@@ -1,15 +1,16 @@
 // The rules of arithmetic: what each asks of a claim. New nodes stand from the table's top on, at most four of them.
-#![tactic(auto, using(claims::proofs::StepLaws::steps), unfolding(model::specs::Rule::premises, model::specs::Rule::sum_of, crate::specs::Monotone::monotone_premises))]
+#![tactic(auto, using(claims::proofs::StepLaws::steps), unfolding(model::specs::Rule::premises, model::specs::Rule::sum_of, crate::specs::Sides::monotone_premises, crate::specs::Sides::apart_premises))]
 
-ghost use Rattle.model.specs.Rule.{congruence, linear, zero_at_most, successor_at_most, below_successor, sum_no_overflow};
+ghost use Rattle.model.specs.Rule.{congruence, zero_at_most, successor_at_most, below_successor, sum_no_overflow};
 ghost use Rattle.nodes.specs.Table.{Formed, Space};
 ghost use Rattle.claims.specs.Parts.{claim_of, ClaimBelow};
 ghost use Rattle.claims.specs.Plan.{filled, new_nodes, Planned, Anywhere, asks, always};
 ghost use Rattle.arithmetic_rules.specs.Forms.{Linear};
-ghost use Rattle.arithmetic_rules.specs.Monotone.{monotone_premises};
+ghost use Rattle.arithmetic_rules.specs.Sides.{monotone_premises, apart_premises};
 
 use claims::parts::Congruence;
 use claims::{Claim, Plan, parts};
+use linear::Compared;
 use model::{Comparison, Misfit};
 use nodes::{Atom, Operation};
 
@@ -36,20 +37,24 @@ pub fn congruent(ws: &[u32], claim: Claim, plan: &mut Plan) -> Result<(), Misfit
     }
 }
 
-// Rule 12: a = b when both have the same linear form.
-pub fn same_form(
+// Rules 12 and 28: a = b, a ≠ b, when the linear forms have a difference, and it is zero, or it is not.
+pub fn apart(
     ws: &mut [u32],
     variables: usize,
     claim: Claim,
+    kind: Comparison,
     plan: &mut Plan,
 ) -> Result<(), Misfit>
     requires formed { Formed ws.old plan.old.top }
     requires linear { Linear ws.old variables claim }
     requires claim_below { ClaimBelow plan.old.top claim }
-    ensures { Planned Anywhere (asks linear (claim_of ws.old claim)) ws.old ws.new plan.old.top (filled result plan.new) }
+    ensures { Planned Anywhere (always (apart_premises kind (claim_of ws.old claim))) ws.old ws.new plan.old.top (filled result plan.new) }
 {
-    let (a, b) = parts::sides(claim, Comparison::Equal)?;
-    plan.ask_nothing_if(linear::same_form(ws, a, b, variables))
+    let (a, b) = parts::sides(claim, kind)?;
+    match linear::compare(ws, a, b, variables) {
+        Compared::Apart(difference) => plan.ask_nothing_if(parts::holds(kind, difference, 0)),
+        Compared::Unlike => Err(Misfit),
+    }
 }
 
 // Rule 13: 0 ≤ a.

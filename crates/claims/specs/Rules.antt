@@ -1,9 +1,9 @@
 -- The model's rule for a rule of the table's nodes. Assumes nothing.
 use Rattle.std.specs.Prelude.{List, ℕ, ◌<◌}
-use Rattle.model.specs.Rule.{Rule as Ruled, from_assumption, equal_reflexive, at_most_reflexive, evaluation, equal_symmetric, equal_transitive, at_most_transitive, less_at_most, at_most_less, at_most_of_less, at_most_of_equal, congruence, linear, zero_at_most, sum_monotone, difference_monotone, successor_at_most, below_successor, sum_no_overflow, less_of_at_most, unequal_of_less, unequal_symmetric, in_readable_region, in_writable_region, contradiction, mask_at_most, shift_at_most, shift_bounded}
+use Rattle.model.specs.Rule.{Rule as Ruled, from_assumption, equal_reflexive, at_most_reflexive, evaluation, equal_symmetric, equal_transitive, at_most_transitive, less_at_most, at_most_less, at_most_of_less, at_most_of_equal, congruence, linear, zero_at_most, sum_monotone, difference_monotone, successor_at_most, below_successor, sum_no_overflow, less_of_at_most, unequal_of_less, unequal_symmetric, in_readable_region, in_writable_region, contradiction, mask_at_most, shift_at_most, shift_bounded, linear_unequal}
 use Rattle.nodes.specs.Table.{term_at}
 use Rattle.claims.specs.declared.Rule.{Rule}
-use Rattle.claims.specs.declared.Rule.TheVariants.{FromAssumption, EqualReflexive, AtMostReflexive, Evaluation, EqualSymmetric, EqualTransitive, AtMostTransitive, LessAtMost, AtMostLess, AtMostOfLess, AtMostOfEqual, Congruence, Linear, ZeroAtMost, SumMonotone, DifferenceMonotone, SuccessorAtMost, BelowSuccessor, SumNoOverflow, LessOfAtMost, UnequalOfLess, UnequalSymmetric, InReadableRegion, InWritableRegion, Contradiction, MaskAtMost, ShiftAtMost, ShiftBounded}
+use Rattle.claims.specs.declared.Rule.TheVariants.{FromAssumption, EqualReflexive, AtMostReflexive, Evaluation, EqualSymmetric, EqualTransitive, AtMostTransitive, LessAtMost, AtMostLess, AtMostOfLess, AtMostOfEqual, Congruence, Linear, ZeroAtMost, SumMonotone, DifferenceMonotone, SuccessorAtMost, BelowSuccessor, SumNoOverflow, LessOfAtMost, UnequalOfLess, UnequalSymmetric, InReadableRegion, InWritableRegion, Contradiction, MaskAtMost, ShiftAtMost, ShiftBounded, LinearUnequal}
 
 -- the rule that the words us say
 abbrev pub rule_in : List ℕ → Rule → Ruled
@@ -35,6 +35,7 @@ rule_in us (Contradiction m) = contradiction (term_at us m)
 rule_in us MaskAtMost = mask_at_most
 rule_in us ShiftAtMost = shift_at_most
 rule_in us ShiftBounded = shift_bounded
+rule_in us LinearUnequal = linear_unequal
 
 -- the rule's node, if it has one, is below top
 abbrev pub RuleBelow : (top : ℕ) → Rule → Type 0
@@ -66,3 +67,4 @@ RuleBelow top (Contradiction m) = m < top
 RuleBelow top MaskAtMost = Unit {0}
 RuleBelow top ShiftAtMost = Unit {0}
 RuleBelow top ShiftBounded = Unit {0}
+RuleBelow top LinearUnequal = Unit {0}

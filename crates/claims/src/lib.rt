@@ -61,6 +61,7 @@ pub enum Rule {
     MaskAtMost,
     ShiftAtMost,
     ShiftBounded,
+    LinearUnequal,
 }
 
 // What a rule asks of a claim that it fits: the first `count` of three premises; `top` is the table's new top. A rule fills a plan that it

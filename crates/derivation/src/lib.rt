@@ -52,7 +52,7 @@ fn planned(
         Rule::AtMostOfLess => weakened(claim, at_most, less, plan),
         Rule::AtMostOfEqual => weakened(claim, at_most, equal, plan),
         Rule::Congruence => arithmetic_rules::congruent(ws, claim, plan),
-        Rule::Linear => arithmetic_rules::same_form(ws, scope.variables, claim, plan),
+        Rule::Linear => arithmetic_rules::apart(ws, scope.variables, claim, equal, plan),
         Rule::ZeroAtMost => arithmetic_rules::from_zero(ws, claim, plan),
         Rule::SumMonotone => arithmetic_rules::monotone(ws, claim, Operation::Sum, plan),
         Rule::DifferenceMonotone => {
@@ -77,6 +77,9 @@ fn planned(
         Rule::MaskAtMost => bit_rules::mask_at_most(ws, claim, plan),
         Rule::ShiftAtMost => bit_rules::shift_at_most(ws, claim, plan),
         Rule::ShiftBounded => bit_rules::shift_bounded(ws, claim, plan),
+        Rule::LinearUnequal => {
+            arithmetic_rules::apart(ws, scope.variables, claim, unequal, plan)
+        }
     }
 }
 

@@ -1,7 +1,8 @@
--- Linear forms by the word: sums and differences, the same form. Assumes nothing.
-use mathlib.Core.Path.{◌≡◌, refl, sym, ap, ◌∙◌}
+-- Linear forms by the word: of sums and differences, and the difference of two forms. Assumes nothing.
+use mathlib.Core.Path.{◌≡◌, refl, sym, ap, ap₂, ◌∙◌}
+use mathlib.Core.Option.{some}
 use mathlib.Core.Logic.{◌≢◌}
-use mathlib.Core.Bool.{Bool, true, false, not, ◌&&◌, and-true, and-false}
+use mathlib.Core.Bool.{Bool, true, false, not, ◌&&◌}
 use mathlib.Core.List.{List}
 use Prim.Native.Nat.{ℕ, zero, suc, ◌+◌, ◌%◌, ◌^◌, ◌≤◌, ◌<◌}
 use native.Mathlib.Omega.{arith}
@@ -11,7 +12,7 @@ use lib.Dec.{eqb, ltb}
 use borrow.Author.Tests.{lt-ltb, eq-eqb, ne_eqb, eqb-true, eqb-false}
 use Rattle.model.specs.Word.{add_w, sub_w}
 use Rattle.model.specs.Term.{Term, constant, variable, sum, difference, mask, shift, eval, closed, eq_term}
-use Rattle.model.specs.Linear.{constant_of, coefficient_of, one_if, variable_bound, same_coefficients, indeterminates, same_form}
+use Rattle.model.specs.Linear.{constant_of, coefficient_of, one_if, variable_bound, same_coefficients, indeterminates, only_if, form_difference}
 use Rattle.model.proofs.Terms.{and_left, and_right}
 use Rattle.model.proofs.Indeterminates.{same_everywhere, same_in_list}
 use Rattle.model.proofs.Words.{◌≈◌, same_word, add_cong, add_cancel, add_plain, sub_plain, add_below, sub_below}
@@ -54,6 +55,11 @@ pub signed_zero : (n : Bool) (w : ℕ) → w < 2 ^ 32 → w ≡ signed n w 0
 unfolding add_w sub_w
 signed_zero false w h = omega arith
 signed_zero true w h = omega arith
+
+-- from a word that is zero, one word added and another subtracted
+added_zero : (a b : ℕ) → a < 2 ^ 32 → sub_w (add_w 0 a) b ≡ sub_w a b
+unfolding add_w sub_w
+added_zero a b h = omega arith
 
 -- one word less another is zero where they are the same and nowhere else
 difference_zero : (a b : ℕ) → a < 2 ^ 32 → b < 2 ^ 32 → eqb (sub_w (add_w 0 a) b) 0 ≡ eqb a b
@@ -127,17 +133,17 @@ variable_else k v n = go (ltb k constant_word)
     go false = refl
 
 module _ (k : ℕ) (p q : Term) where
-  pub form_sum : form_at k (sum p q) ≡ add_w (form_at k p) (form_at k q)
+  pub form_of_sum : form_at k (sum p q) ≡ add_w (form_at k p) (form_at k q)
   unfolding form_at constant_of coefficient_of
-  form_sum = go (ltb k constant_word)
+  form_of_sum = go (ltb k constant_word)
     where
       go : (b : Bool) → form_if b k (sum p q) ≡ add_w (form_if b k p) (form_if b k q)
       go true = refl
       go false = refl
 
-  pub form_difference : form_at k (difference p q) ≡ sub_w (form_at k p) (form_at k q)
+  pub form_of_difference : form_at k (difference p q) ≡ sub_w (form_at k p) (form_at k q)
   unfolding form_at constant_of coefficient_of
-  form_difference = go (ltb k constant_word)
+  form_of_difference = go (ltb k constant_word)
     where
       go : (b : Bool) → form_if b k (difference p q) ≡ sub_w (form_if b k p) (form_if b k q)
       go true = refl
@@ -146,10 +152,10 @@ module _ (k : ℕ) (p q : Term) where
   -- a word after both parts, where the word after the first is u
   module _ (n : Bool) (w : ℕ) {u v : ℕ} (e : u ≡ signed n w (form_at k p)) where
     pub word_sum : v ≡ signed n u (form_at k q) → v ≡ signed n w (form_at k (sum p q))
-    word_sum f = rw (f, e, form_sum) (signed_sum w (form_at k p) (form_at k q) (form_word k p) (form_word k q) n)
+    word_sum f = rw (f, e, form_of_sum) (signed_sum w (form_at k p) (form_at k q) (form_word k p) (form_word k q) n)
 
     pub word_difference : v ≡ signed (not n) u (form_at k q) → v ≡ signed n w (form_at k (difference p q))
-    word_difference f = rw (f, e, form_difference) (signed_difference w (form_at k p) (form_at k q) (form_word k p) (form_word k q) n)
+    word_difference f = rw (f, e, form_of_difference) (signed_difference w (form_at k p) (form_at k q) (form_word k p) (form_word k q) n)
 
 -- ---- terms that hold a value: it is the constant, and all else is zero
 pub plain_constant : (t : Term) → plain t ≡ true → constant_of t ≡ eval (λ v. 0) t
@@ -244,12 +250,12 @@ number_word (of_term x) t = coefficient_word x t
 module _ (s t : Term) where
   pub number_sum : (e : Entry) → number_at e (sum s t) ≡ add_w (number_at e s) (number_at e t)
   unfolding coefficient_of
-  number_sum (in_word p) = form_sum p s t
+  number_sum (in_word p) = form_of_sum p s t
   number_sum (of_term x) = refl
 
   pub number_difference : (e : Entry) → number_at e (difference s t) ≡ sub_w (number_at e s) (number_at e t)
   unfolding coefficient_of
-  number_difference (in_word p) = form_difference p s t
+  number_difference (in_word p) = form_of_difference p s t
   number_difference (of_term x) = refl
 
 -- where all is in one word p of the area
@@ -307,9 +313,9 @@ module _ (s t : Term) where
   alike_true : ((x : Term) → coefficient_of x s ≡ coefficient_of x t) → same_coefficients (indeterminates s t) s t ≡ true
   alike_true h = same_in_list s t h (indeterminates s t)
 
-pub same_form_refl : (t : Term) → same_form t t ≡ true
-unfolding same_form
-same_form_refl t = rw (eq-eqb (constant_of t) (constant_of t) refl, alike_true t t (λ x. refl))
+pub difference_refl : (t : Term) → form_difference t t ≡ some 0
+unfolding form_difference only_if sub_w
+difference_refl t = rw (alike_true t t (λ x. refl)) (ap some (omega (arith, constant_word_lem t)))
 
 -- the words that hold the first term's form less the second's
 module _ (s t : Term) (ws : List ℕ) (words : (k : ℕ) → k < area_words → get_or ws k 0 ≡ sub_w (add_w 0 (form_at k s)) (form_at k t)) where
@@ -348,13 +354,15 @@ module _ (s t : Term) (ws : List ℕ) (words : (k : ℕ) → k < area_words → 
     every_alike z a (mask p q) = a (mask p q) refl
     every_alike z a (shift m p) = a (shift m p) refl
 
-    -- all are zero, and masked and shifted terms agree, where the forms are the same
-    pub zeros_same_form : (r : Bool) → (r ≡ true → (x : Term) → opaque x ≡ true → coefficient_of x s ≡ coefficient_of x t) → (r ≡ false → Unlike s t)
-        → ((eqb (get_or ws constant_word 0) 0 && all_zero n ws) && r) ≡ same_form s t
-    unfolding same_form
-    zeros_same_form r a d = rw (word_zero constant_word (omega arith), form_constant s, form_constant t) (go (eqb (constant_of s) (constant_of t)) (all_zero n ws) refl r refl)
+    -- where the coefficients' words are zero and masked and shifted terms agree, the forms differ by the constant's word
+    pub zeros_difference : (r : Bool) → (r ≡ true → (x : Term) → opaque x ≡ true → coefficient_of x s ≡ coefficient_of x t) → (r ≡ false → Unlike s t)
+        → only_if (all_zero n ws && r) (get_or ws constant_word 0) ≡ form_difference s t
+    unfolding form_difference
+    zeros_difference r a d =
+        rw (words constant_word (omega arith), form_constant s, form_constant t)
+        (ap₂ only_if (go (all_zero n ws) refl r refl) (added_zero (constant_of s) (constant_of t) (constant_word_lem s)))
       where
-        go : (same z : Bool) → all_zero n ws ≡ z → (b : Bool) → r ≡ b → ((same && z) && b) ≡ (same && same_coefficients (indeterminates s t) s t)
-        go same true e true f = rw (alike_true s t (every_alike e (a f))) (and-true (same && true))
-        go same true e false f = rw (unlike_false s t (d f)) (and-false (same && true) ∙ sym (and-false same))
-        go same false e b f = rw (unlike_false s t (variable_unlike (some_nonzero n ws e)), and-false same)
+        go : (z : Bool) → all_zero n ws ≡ z → (b : Bool) → r ≡ b → (z && b) ≡ same_coefficients (indeterminates s t) s t
+        go true e true f = sym (alike_true s t (every_alike e (a f)))
+        go true e false f = sym (unlike_false s t (d f))
+        go false e b f = sym (unlike_false s t (variable_unlike (some_nonzero n ws e)))

@@ -21,7 +21,7 @@ use Rattle.nodes.specs.declared.Operation.{Operation}
 use Rattle.nodes.specs.declared.Operation.TheVariants.{Sum, Difference, Mask}
 use Rattle.workspace.proofs.Frames.{same_refl, same_within, same_trans}
 use Rattle.nodes.proofs.Table.{node_order, node_built, part, term_same, formed_same}
-use Rattle.forms.specs.Area.{form_at, signed, Bounded, Tree, Accumulated, Cleared, all_zero, Taken}
+use Rattle.forms.specs.Area.{form_at, signed, Bounded, Tree, Accumulated, Cleared, all_zero, Emptied}
 use Rattle.forms.proofs.Forms.{signed_zero, constant_here, constant_else, variable_here, variable_else, word_sum, word_difference, clash}
 
 -- ---- words that keep the area, or the table
@@ -143,13 +143,13 @@ module _ {ws us : List ℕ} {i b : ℕ} {n : Bool} (h : Tree ws i b) where
         (accumulated_both n (difference (term_at ws l) (term_at ws r)) f g (λ k d. word_difference k (term_at ws l) (term_at ws r) n (get_or ws k 0) (f.area k d) (rw (term_kept f (pair_parts h Difference e).right.formed) at (g.area k d))))
 
 -- ---- emptied, word by word: us is the front of the words, and rest what stands after it
-pub taken_none : (n : ℕ) (ws : List ℕ) → Taken ws (take n ws ++ drop n ws) 0 true
+pub emptied_none : (n : ℕ) (ws : List ℕ) → Emptied ws (take n ws ++ drop n ws) 0 true
 unfolding all_zero
-taken_none n ws = rw (take-append-drop n ws) (record { is = refl; zeros = λ k h. omega arith; above = same_refl 0 (length ws) ws; long = refl })
+emptied_none n ws = rw (take-append-drop n ws) (record { is = refl; zeros = λ k h. omega arith; above = same_refl 0 (length ws) ws; long = refl })
 
-pub taken_more : {ws : List ℕ} (us rest : List ℕ) {n x y : ℕ} {r : Bool} → Taken ws (us ++ rest) n r → n < length us → x ≡ get_or us n 0 → y ≡ 0 → Taken ws (set us n y ++ rest) (n + 1) (r && eqb x 0)
+pub emptied_more : {ws : List ℕ} (us rest : List ℕ) {n x y : ℕ} {r : Bool} → Emptied ws (us ++ rest) n r → n < length us → x ≡ get_or us n 0 → y ≡ 0 → Emptied ws (set us n y ++ rest) (n + 1) (r && eqb x 0)
 unfolding all_zero
-taken_more {ws} us rest {n} {x} {y} {r} t h e z = rw (z, ← set-append_left us rest n 0 h) (record {
+emptied_more {ws} us rest {n} {x} {y} {r} t h e z = rw (z, ← set-append_left us rest n 0 h) (record {
   is = rw (add-one n, e, t.is, ← t.above.word n (omega arith) (rw t.long at inside), get_or-append us rest 0 n h);
   zeros = λ k l. go k l (ℕ_discrete k n);
   above = record { word = λ k l m. get_or-set_other (us ++ rest) n k 0 0 (omega arith) ∙ t.above.word k (omega arith) m };

@@ -1,5 +1,5 @@
 -- The coefficient area of the workspace: a word for each variable, and then one for the constant. Assumes nothing.
-use Rattle.std.specs.Prelude.{◌≡◌, ◌≢◌, Bool, true, false, ◌&&◌, List, ℕ, zero, suc, ◌≤◌, ◌<◌, length, get_or, eqb, ltb}
+use Rattle.std.specs.Prelude.{◌≡◌, Bool, true, false, ◌&&◌, List, ℕ, zero, suc, ◌≤◌, ◌<◌, length, get_or, eqb, ltb}
 use Rattle.model.specs.Word.{add_w, sub_w}
 use Rattle.model.specs.Term.{Term, variable}
 use Rattle.model.specs.Linear.{constant_of, coefficient_of, variable_bound}
@@ -53,16 +53,8 @@ all_zero zero ws = true
 all_zero (suc n) ws = all_zero n ws && eqb (get_or ws n 0) 0
 
 -- us is ws with the first n words made zero; r says whether they were
-pub record Taken (ws us : List ℕ) (n : ℕ) (r : Bool) : Type 0 where
+pub record Emptied (ws us : List ℕ) (n : ℕ) (r : Bool) : Type 0 where
   pub is : r ≡ all_zero n ws
   pub zeros : (k : ℕ) → k < n → get_or us k 0 ≡ 0
   pub above : Same n (length ws) ws us
-  pub long : length us ≡ length ws
-
--- us is ws with the first n words and the constant's made zero; r says whether they were
-pub record Emptied (ws us : List ℕ) (n : ℕ) (r : Bool) : Type 0 where
-  pub is : r ≡ (eqb (get_or ws constant_word 0) 0 && all_zero n ws)
-  pub zeros : (k : ℕ) → k < n → get_or us k 0 ≡ 0
-  pub constant : get_or us constant_word 0 ≡ 0
-  pub others : (k : ℕ) → n ≤ k → k < length ws → k ≢ constant_word → get_or us k 0 ≡ get_or ws k 0
   pub long : length us ≡ length ws

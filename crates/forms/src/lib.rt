@@ -1,11 +1,11 @@
-// The words in which linear forms modulo 2^32 (rule 12) are reckoned, the workspace's first: word v for variable v, and one word for the
+// The words in which linear forms modulo 2^32 (rules 12 and 28) are reckoned, the workspace's first: word v for variable v, and one word for the
 // constant. They are all zero between uses. Small terms are walked as trees.
 #![tactic(auto)]
 
 ghost use Rattle.std.specs.Prelude.{◌≡◌, ◌≤◌, ◌<◌, length, get_or, set};
-ghost use Rattle.workspace.specs.Layout.{constant_word, area_words};
+ghost use Rattle.workspace.specs.Layout.{constant_word};
 ghost use Rattle.nodes.specs.Table.{term_at};
-ghost use Rattle.forms.specs.Area.{signed, Tree, Accumulated, Taken, Emptied};
+ghost use Rattle.forms.specs.Area.{signed, Tree, Accumulated, Emptied};
 
 use nodes::{Node, Operation};
 use std::mem;
@@ -44,24 +44,13 @@ pub fn accumulate(ws: &mut [u32], i: usize, negative: bool)
 }
 
 // Whether the coefficients of the first variables are all zero; they are zero afterwards.
-fn empty_coefficients(ws: &mut [u32], variables: usize) -> bool
+pub fn empty(ws: &mut [u32], variables: usize) -> bool
     requires { variables ≤ length ws.old }
-    ensures { Taken ws.old ws.new variables result }
+    ensures { Emptied ws.old ws.new variables result }
 {
     let mut zero = true;
     for coefficient in &mut ws[..variables] {
         zero &= mem::take(coefficient) == 0;
     }
     zero
-}
-
-// Whether the constant and the coefficients of the first variables are all zero; they are zero afterwards.
-pub fn empty(ws: &mut [u32], variables: usize) -> bool
-    requires few { variables ≤ constant_word }
-    requires room { area_words ≤ length ws.old }
-    ensures { Emptied ws.old ws.new variables result }
-{
-    let coefficients = empty_coefficients(ws, variables);
-    let constant = mem::take(&mut ws[CONSTANT]) == 0;
-    constant & coefficients
 }

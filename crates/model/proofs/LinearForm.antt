@@ -1,17 +1,20 @@
--- Terms with the same linear form have the same value (rule 12). Assumes nothing.
+-- Terms whose linear forms have the same coefficients differ as the constants do (rules 12 and 28). Assumes nothing.
 use Prim.Native.Nat.{ℕ, ◌≤◌, ◌<◌, ◌^◌, ◌+◌, ◌%◌, ◌*◌, max}
 use mathlib.Core.Bool.{Bool, true, false}
 use mathlib.Core.List.{List, [], ◌∷◌}
 use mathlib.Core.Path.{◌≡◌, refl, ap, ◌∙◌, sym}
 use native.Mathlib.Omega.{arith}
 use borrow.Author.Tests.{eqb-true}
-use Rattle.model.specs.Linear.{constant_of, one_if, coefficient_of, variable_bound, variables_below, opaque_terms, indeterminates, same_coefficients, same_form}
+use Rattle.model.specs.Linear.{constant_of, one_if, coefficient_of, variable_bound, variables_below, opaque_terms, indeterminates, same_coefficients, only_if, form_difference}
+use Rattle.model.specs.Result.{found, misfit}
+use Rattle.model.specs.declared.Misfit.{Misfit}
 use Rattle.model.specs.Term.{Term, eval, eq_term, constant, variable, sum, difference, mask, shift}
 use Rattle.model.specs.Word.{add_w, sub_w}
+use Rattle.model.proofs.Gives.{Gives, gives, gives_map, stops}
 use Rattle.model.proofs.Indeterminates.{stands, Standing, variable_among, complete}
 use Rattle.model.proofs.Lists.{every_left, every_right, every_head}
 use Rattle.model.proofs.Terms.{and_right, eval_word, WordEnv, and_left, same_term}
-use Rattle.model.proofs.Words.{sub_plain, ◌≈◌, add_plain, add_below, mul_cong, add_cong, add_cancel, same_word, sub_below}
+use Rattle.model.proofs.Words.{sub_plain, ◌≈◌, add_plain, add_below, mul_cong, add_cong, add_cancel, sub_below}
 
 constant_word_lem : (t : Term) → constant_of t < 2 ^ 32
 unfolding constant_of
@@ -57,24 +60,24 @@ module _ (env : ℕ → ℕ) where
   form_constant [] c = refl
   form_constant (x ∷ xs) c = omega (arith, form_constant xs c)
 
-  form_sum : (xs : List Term) (s t : Term) → form xs (sum s t) ≈ form xs s + form xs t
+  form_of_sum : (xs : List Term) (s t : Term) → form xs (sum s t) ≈ form xs s + form xs t
   unfolding form constant_of coefficient_of
-  form_sum [] s t = add_plain (constant_of s) (constant_of t)
-  form_sum (x ∷ xs) s t =
+  form_of_sum [] s t = add_plain (constant_of s) (constant_of t)
+  form_of_sum (x ∷ xs) s t =
       let p = coefficient_of x s in
       let q = coefficient_of x t in
       let e = unless (stands x xs) (eval env x) in
-      add_cong _ _ _ _ (form_sum xs s t) (mul_cong (add_w p q) (p + q) e (add_plain p q)) ∙ regroup (form xs s) (form xs t) p q e
+      add_cong _ _ _ _ (form_of_sum xs s t) (mul_cong (add_w p q) (p + q) e (add_plain p q)) ∙ regroup (form xs s) (form xs t) p q e
 
-  form_difference : (xs : List Term) (s t : Term) → form xs (difference s t) + form xs t ≈ form xs s
+  form_of_difference : (xs : List Term) (s t : Term) → form xs (difference s t) + form xs t ≈ form xs s
   unfolding form constant_of coefficient_of
-  form_difference [] s t = sub_plain (constant_of s) (constant_of t) (constant_word_lem t)
-  form_difference (x ∷ xs) s t =
+  form_of_difference [] s t = sub_plain (constant_of s) (constant_of t) (constant_word_lem t)
+  form_of_difference (x ∷ xs) s t =
       let p = coefficient_of x s in
       let q = coefficient_of x t in
       let e = unless (stands x xs) (eval env x) in
       sym (regroup (form xs (difference s t)) (form xs t) (sub_w p q) q e)
-      ∙ add_cong _ _ _ _ (form_difference xs s t) (mul_cong (sub_w p q + q) p e (sub_plain p q (coefficient_word x t)))
+      ∙ add_cong _ _ _ _ (form_of_difference xs s t) (mul_cong (sub_w p q + q) p e (sub_plain p q (coefficient_word x t)))
 
   -- the form of an indeterminate is its value, if it stands in the list
   form_one : (y : Term) → constant_of y ≡ 0 → ((x : Term) → coefficient_of x y ≡ one_if (eq_term x y)) → (xs : List Term)
@@ -101,7 +104,7 @@ module _ (env : ℕ → ℕ) where
     eval_form (sum s t) h o =
         add_plain (eval env s) (eval env t)
         ∙ add_cong _ _ _ _ (eval_form s (omega arith) (every_left (opaque_terms s) _ o)) (eval_form t (omega arith) (every_right (opaque_terms s) _ o))
-        ∙ sym (form_sum xs s t)
+        ∙ sym (form_of_sum xs s t)
     eval_form (difference s t) h o =
         let a = eval env s in
         let b = eval env t in
@@ -109,7 +112,7 @@ module _ (env : ℕ → ℕ) where
         add_cong (sub_w a b) (sub_w a b) _ _ refl (sym (eval_form t (omega arith) (every_right (opaque_terms s) _ o)))
         ∙ sub_plain a b (eval_word env t words)
         ∙ eval_form s (omega arith) (every_left (opaque_terms s) _ o)
-        ∙ sym (form_difference xs s t))
+        ∙ sym (form_of_difference xs s t))
     eval_form (mask s t) h o = known (mask s t) refl (λ x. refl) (every_head o)
     eval_form (shift count s) h o = known (shift count s) refl (λ x. refl) (every_head o)
 
@@ -130,11 +133,16 @@ values_differ env words s t h =
     ∙ ap (λ x. x % 2 ^ 32) (same_coefficients_lem env (indeterminates s t) s t h)
     ∙ sym (add_cong _ _ _ _ (value_of_lem t (omega arith) all.second) refl)
 
-pub linear_sound : (env : ℕ → ℕ) → WordEnv env → (s t : Term) → same_form s t ≡ true → eval env s ≡ eval env t
-unfolding same_form
-linear_sound env words s t h =
-    let e = values_differ env words s t (search and_right) in
-    same_word
-    (add_cancel (eval env s) (eval env t) (constant_of t) (rw (eqb-true (constant_of s) (constant_of t) (search and_left)) at e))
-    (eval_word env s words)
-    (eval_word env t words)
+only_where : (b : Bool) (d : ℕ) → Gives {E = Misfit} (λ x. (b ≡ true) × (x ≡ d)) (found (only_if b d) misfit)
+unfolding found only_if
+only_where true d = gives (refl, refl)
+only_where false d = stops
+
+-- where the forms have a difference, the one value is the other plus it
+pub difference_sound : (env : ℕ → ℕ) → WordEnv env → (s t : Term)
+    → Gives {E = Misfit} (λ d. (eval env s ≡ add_w (eval env t) d) × (d < 2 ^ 32)) (found (form_difference s t) misfit)
+unfolding form_difference add_w sub_w
+difference_sound env words s t =
+    gives_map
+    (λ d h. let apart = values_differ env words s t h.0 in (omega (arith, h.1, eval_word env s words, constant_word_lem s, constant_word_lem t), omega (arith, h.1)))
+    (only_where _ _)

@@ -1,27 +1,26 @@
 -- Each rule is sound: where its premises hold under an environment, so does the claim. Assumes nothing.
 use Prim.Native.Nat.{ℕ, ◌≤◌, ◌<◌, ◌^◌, ◌+◌}
-use mathlib.Core.Bool.{Bool, true, ◌&&◌}
+use mathlib.Core.Bool.{Bool, true, not, ◌&&◌}
 use mathlib.Core.List.{List, [], ◌∷◌}
 use mathlib.Core.Option.{some}
 use mathlib.Core.Path.{◌≡◌, ap, ◌∙◌, sym, subst, ap₂}
 use native.Mathlib.Omega.{arith}
 use lib.Dec.{leb, eqb}
 use lib.ListN.{get_elem?}
-use borrow.Author.Tests.{leb-true, ltb-true, lt-ltb, le-leb, eqb-true}
+use borrow.Author.Tests.{leb-true, ltb-true, lt-ltb, le-leb, eqb-true, eqb-false, not-true}
 use Rattle.model.specs.Atom.{Atom, less, Compares, holds, Holds, AllHold, eq_atom}
 use Rattle.model.specs.Goals.{Claim, Goal, atom, readable, writable}
-use Rattle.model.specs.Linear.{same_form}
 use Rattle.model.specs.Policy.{Policy, may_read, covers, readable_word, writable_word, writable_region, region_fits}
 use Rattle.model.specs.Rights.{Fitting, WhollyWritable}
 use Rattle.model.specs.Result.{Fit, ◌>>=◌, check, misfit, Ok}
-use Rattle.model.specs.Rule.{Rule, Format, rules, atom_of, sides_of, readable_of, writable_of, pair_of, sum_of, difference_of, mask_of, shift_of, equal_pairs, congruent, region_premises, premises, from_assumption, equal_reflexive, at_most_reflexive, evaluation, equal_symmetric, equal_transitive, at_most_transitive, less_at_most, at_most_less, at_most_of_less, at_most_of_equal, congruence, linear, zero_at_most, sum_monotone, difference_monotone, successor_at_most, below_successor, sum_no_overflow, less_of_at_most, unequal_of_less, unequal_symmetric, in_readable_region, in_writable_region, contradiction, mask_at_most, shift_at_most, shift_bounded, plain, with_index, with_term, with_region}
+use Rattle.model.specs.Rule.{Rule, Format, rules, atom_of, sides_of, readable_of, writable_of, pair_of, sum_of, difference_of, mask_of, shift_of, equal_pairs, congruent, region_premises, premises, from_assumption, equal_reflexive, at_most_reflexive, evaluation, equal_symmetric, equal_transitive, at_most_transitive, less_at_most, at_most_less, at_most_of_less, at_most_of_equal, congruence, linear, zero_at_most, sum_monotone, difference_monotone, successor_at_most, below_successor, sum_no_overflow, less_of_at_most, unequal_of_less, unequal_symmetric, in_readable_region, in_writable_region, contradiction, mask_at_most, shift_at_most, shift_bounded, linear_unequal, plain, with_index, with_term, with_region}
 use Rattle.model.specs.Term.{Term, eval, closed, eq_term, constant, variable, sum, difference, mask, shift}
 use Rattle.model.specs.Word.{add_w, sub_w, mask_w, shift_w}
 use Rattle.model.specs.declared.Comparison.{Comparison}
 use Rattle.model.specs.declared.Comparison.TheVariants.{Equal, Unequal, Less, AtMost}
 use Rattle.model.specs.declared.Region.{Region}
 use Rattle.model.proofs.Gives.{Gives, gives_map, gives_check, gives_element, gives_found, gives, gives_then, stops}
-use Rattle.model.proofs.LinearForm.{linear_sound}
+use Rattle.model.proofs.LinearForm.{difference_sound}
 use Rattle.model.proofs.Lists.{empty, Every, ◌&◌, every_at}
 use Rattle.model.proofs.Rights.{given_some, wholly_writable}
 use Rattle.model.proofs.Terms.{same_atom, same_term, and_both, and_right, same_kind, eval_word, WordEnv, closed_holds, with_tag}
@@ -217,12 +216,13 @@ module _ (policy : Policy) (fit : RegionsFit policy) (g : Goal) (env : ℕ → �
   congruence_sound c =
       gives_then (sides policy env Equal c) λ s enough. gives_map (λ _ k p. enough (k p)) (congruent_of env s.0 s.1)
 
-  linear_rule_sound : SoundRule linear
-  unfolding premises Compares
-  linear_rule_sound c =
+  linear_sound : SoundRule linear
+  unfolding premises Compares add_w
+  linear_sound c =
       gives_then (sides policy env Equal c) λ s enough.
-      gives_then (gives_check (same_form s.0 s.1) misfit) λ _ e.
-      gives (λ _. enough (linear_sound env words s.0 s.1 e))
+      gives_then (difference_sound env words s.0 s.1) λ d h.
+      gives_then (gives_check (eqb d 0) misfit) λ _ e.
+      gives (λ _. enough (omega (arith, h.0, eqb-true d 0 e, eval_word env s.1 words)))
 
   zero_at_most_sound : SoundRule zero_at_most
   unfolding premises Compares eval
@@ -313,7 +313,7 @@ module _ (policy : Policy) (fit : RegionsFit policy) (g : Goal) (env : ℕ → �
   unfolding premises AllHold Holds Compares
   contradiction_sound m c = gives {a = less m m ∷ []} (λ p. absurd (omega arith))
 
-  -- ---- rules 25 to 27
+  -- ---- rules 25 to 28
 
   mask_at_most_sound : SoundRule mask_at_most
   unfolding premises Compares
@@ -340,6 +340,15 @@ module _ (policy : Policy) (fit : RegionsFit policy) (g : Goal) (env : ℕ → �
       let most = shifted_monotone l.0 (eval env l.1) 4294967295 (omega (arith, eval_word env l.1 words)) in
       gives (λ _. enough (omega (arith, u, e, most, shifted_at_most l.0 4294967295)))
 
+  linear_unequal_sound : SoundRule linear_unequal
+  unfolding premises Compares add_w
+  linear_unequal_sound c =
+      gives_then (sides policy env Unequal c) λ s enough.
+      gives_then (difference_sound env words s.0 s.1) λ d h.
+      gives_then (gives_check (not (eqb d 0)) misfit) λ _ e.
+      let other = eqb-false d 0 (not-true (eqb d 0) e) in
+      gives (λ _. enough (omega (arith, h.0, h.1, other, eval_word env s.1 words)))
+
   -- ---- the table of rules
 
   abbrev pub FormatSound : Format → Type 0
@@ -362,7 +371,7 @@ module _ (policy : Policy) (fit : RegionsFit policy) (g : Goal) (env : ℕ → �
       & at_most_of_less_sound
       & at_most_of_equal_sound
       & congruence_sound
-      & linear_rule_sound
+      & linear_sound
       & zero_at_most_sound
       & sum_monotone_sound
       & difference_monotone_sound
@@ -378,4 +387,5 @@ module _ (policy : Policy) (fit : RegionsFit policy) (g : Goal) (env : ℕ → �
       & mask_at_most_sound
       & shift_at_most_sound
       & shift_bounded_sound
+      & linear_unequal_sound
       & empty

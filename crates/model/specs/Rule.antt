@@ -1,5 +1,5 @@
 -- The rules of derivation: the premises from which each gives a claim. Assumes nothing.
-use Rattle.std.specs.Prelude.{ℕ, ◌+◌, Bool, ◌&&◌, List, [], ◌∷◌, eqb}
+use Rattle.std.specs.Prelude.{ℕ, ◌+◌, Bool, not, ◌&&◌, List, [], ◌∷◌, eqb}
 use Rattle.std.proofs.Math.ListN.{get_elem?}
 use Rattle.model.specs.Result.{Fit, misfit, Err, Ok, ◌>>=◌, check, found}
 use Rattle.model.specs.Word.{shift_w}
@@ -8,7 +8,7 @@ use Rattle.model.specs.Atom.{Atom, equal, unequal, less, at_most, holds, tag_of,
 use Rattle.model.specs.Policy.{Policy, may_read, writable_region}
 use Rattle.model.specs.declared.Region.{Region}
 use Rattle.model.specs.Goals.{Claim, atom, readable, writable, Goal}
-use Rattle.model.specs.Linear.{same_form}
+use Rattle.model.specs.Linear.{form_difference}
 use Rattle.model.specs.declared.Comparison.{Comparison}
 use Rattle.model.specs.declared.Comparison.TheVariants.{Equal, Unequal, Less, AtMost}
 
@@ -42,6 +42,7 @@ pub data Rule : Type 0 where
   mask_at_most : Rule
   shift_at_most : Rule
   shift_bounded : Rule
+  linear_unequal : Rule
 
 -- what stands after a rule byte
 pub data Format : Type 0 where
@@ -80,6 +81,7 @@ rules =
     ∷ plain mask_at_most
     ∷ plain shift_at_most
     ∷ plain shift_bounded
+    ∷ plain linear_unequal
     ∷ []
 
 -- ---- the parts of a claim and of a term
@@ -200,9 +202,11 @@ module _ (policy : Policy) (g : Goal) where
   premises congruence c = do
     (l, r) ← sides_of Equal c
     congruent l r
+  -- "Rule 12 fits at difference zero."
   premises linear c = do
     (a, b) ← sides_of Equal c
-    _ ← check (same_form a b) misfit
+    d ← found (form_difference a b) misfit
+    _ ← check (eqb d 0) misfit
     Ok []
   premises zero_at_most c = do
     (a, b) ← sides_of AtMost c
@@ -262,4 +266,10 @@ module _ (policy : Policy) (g : Goal) where
     (l, r) ← sides_of AtMost c
     (count, a) ← shift_of l
     _ ← check (eq_term r (constant (shift_w count 4294967295))) misfit
+    Ok []
+  -- "New rule 28: a ≠ b if a difference exists and is not zero."
+  premises linear_unequal c = do
+    (a, b) ← sides_of Unequal c
+    d ← found (form_difference a b) misfit
+    _ ← check (not (eqb d 0)) misfit
     Ok []

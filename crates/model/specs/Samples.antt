@@ -15,7 +15,7 @@ use Rattle.model.specs.Annotation.{annotation_at, annotation_refusal, annotation
 use Rattle.model.specs.Routine.{target_annotated, targets_annotated, read_routine}
 use Rattle.model.specs.Machine.{execute, step}
 use Rattle.model.specs.Goals.{goals, append, arrival, returning, small_enough, assign, at_target, jump, branch, move, landing, tracing, walk, entry_block, annotation_block, annotation_blocks, trace_of}
-use Rattle.model.specs.Linear.{constant_of, coefficient_of, variable_bound, variables_below, opaque_terms, indeterminates, same_coefficients, same_form}
+use Rattle.model.specs.Linear.{constant_of, coefficient_of, variable_bound, variables_below, opaque_terms, indeterminates, same_coefficients, only_if, form_difference}
 use Rattle.model.specs.Rule.{atom_of, sides_of, readable_of, writable_of, pair_of, sum_of, difference_of, mask_of, shift_of, equal_pairs, congruent, region_premises, premises}
 use Rattle.model.specs.Derivation.{proof_refusal, rule_at, derive_all, derive}
 use Rattle.model.specs.Verdict.{answered, judge, read_inputs, check_of}
@@ -31,7 +31,7 @@ abbrev pub Answer : Type 0
 Answer = ℕ × ℕ × ℕ
 
 unfoldable pub answer_of : Input → Answer
-unfolding ◌>>=◌ check found map_err number_of place_of add_w sub_w mask_w shift_w le16 le32 eval size closed eq_term substitute compares holds tag_of eq_atom substitute_atom byte_at half_at word_at node_of nodes_at expression_at atom_at atoms_at some_region all_writable readable_word writable_word writable_region region_fits policy_refusal sizes_of region_at regions_from read_policy provided decode target_of target_inside read_header instructions_from read_code code_of annotation_at annotation_refusal annotation_from annotations_from read_annotations target_annotated targets_annotated read_routine execute step goals append arrival returning small_enough assign at_target jump branch move landing tracing walk entry_block annotation_block annotation_blocks trace_of constant_of coefficient_of variable_bound variables_below opaque_terms indeterminates same_coefficients same_form atom_of sides_of readable_of writable_of pair_of sum_of difference_of mask_of shift_of equal_pairs congruent region_premises premises proof_refusal rule_at derive_all derive answered judge read_inputs check_of run_from read_start run_of
+unfolding ◌>>=◌ check found map_err number_of place_of add_w sub_w mask_w shift_w le16 le32 eval size closed eq_term substitute compares holds tag_of eq_atom substitute_atom byte_at half_at word_at node_of nodes_at expression_at atom_at atoms_at some_region all_writable readable_word writable_word writable_region region_fits policy_refusal sizes_of region_at regions_from read_policy provided decode target_of target_inside read_header instructions_from read_code code_of annotation_at annotation_refusal annotation_from annotations_from read_annotations target_annotated targets_annotated read_routine execute step goals append arrival returning small_enough assign at_target jump branch move landing tracing walk entry_block annotation_block annotation_blocks trace_of constant_of coefficient_of variable_bound variables_below opaque_terms indeterminates same_coefficients only_if form_difference atom_of sides_of readable_of writable_of pair_of sum_of difference_of mask_of shift_of equal_pairs congruent region_premises premises proof_refusal rule_at derive_all derive answered judge read_inputs check_of run_from read_start run_of
 answer_of (to_checker policy_bytes package_bytes) =
     let v = check_of 16384 policy_bytes package_bytes in
     (v.number, v.place, v.goals)
@@ -177,6 +177,14 @@ package_test =
 abbrev pub package_shifted : List ℕ
 package_shifted = packaged (replicate 7 (coded 1 1 1 1 0) ++ coded 11 1 1 0 0 ∷ []) 0 [] []
 
+-- a policy whose postcondition is one atom, of a kind and two expressions
+abbrev pub of_two : (kind : ℕ) → (left right : List ℕ) → List ℕ
+of_two kind left right = policed 1 0 1 (kind ∷ left ++ right)
+
+-- a return, whose one atom is derived by a rule that has neither argument nor premises
+abbrev pub by_rule : (rule : ℕ) → List ℕ
+by_rule rule = package_s 1 2 (rule ∷ 0x02 ∷ [])
+
 -- S-1: operations 10 and 11, tags 4 and 5, rules 3, 12, 25, 26 and 27
 abbrev pub mask_samples : List Sample
 mask_samples =
@@ -187,14 +195,14 @@ mask_samples =
     ∷ sample (to_checker (policed 2 0 1 at_most255) (package_one 0x0b 24 (0x1a ∷ 0x02 ∷ []))) 16 28 0
     ∷ sample (to_checker (policed 2 0 1 at_most255) (package_one 0x0b 32 (0x1b ∷ 0x02 ∷ []))) 8 0 0
     -- 61680 masked with 4080, shifted by 4, is 15: by rule 3
-    ∷ sample (to_checker (policed 1 0 1 (0x00 ∷ 0x05 ∷ 0x04 ∷ 0x04 ∷ constant_e 61680 ++ constant_e 4080 ++ constant_e 15)) (package_s 1 2 (0x03 ∷ 0x02 ∷ []))) 0 0 2
+    ∷ sample (to_checker (of_two 0 (0x05 ∷ 0x04 ∷ 0x04 ∷ constant_e 61680 ++ constant_e 4080) (constant_e 15)) (by_rule 3)) 0 0 2
     -- a count byte of 32, and one that is not there
     ∷ sample (to_checker (policed 1 0 1 (0x00 ∷ 0x05 ∷ 0x20 ∷ [])) (package_s 1 1 (0x02 ∷ []))) 6 22 0
     ∷ sample (to_checker (policed 1 0 1 (0x00 ∷ 0x05 ∷ [])) (package_s 1 1 (0x02 ∷ []))) 3 22 0
     -- a masked term is one more variable of rule 12, another masked term is another, and one of constants is one too
-    ∷ sample (to_checker (policed 1 0 1 (0x00 ∷ 0x03 ∷ 0x02 ∷ mask_e 255 ++ variable_e 2 ++ variable_e 2 ++ mask_e 255)) (package_s 1 2 (0x0c ∷ 0x02 ∷ []))) 0 0 2
-    ∷ sample (to_checker (policed 1 0 1 (0x00 ∷ mask_e 255 ++ mask_e 254)) (package_s 1 2 (0x0c ∷ 0x02 ∷ []))) 16 20 0
-    ∷ sample (to_checker (policed 1 0 1 (0x00 ∷ 0x05 ∷ 0x01 ∷ constant_e 2 ++ constant_e 1)) (package_s 1 2 (0x0c ∷ 0x02 ∷ []))) 16 20 0
+    ∷ sample (to_checker (of_two 0 (0x03 ∷ 0x02 ∷ mask_e 255 ++ variable_e 2 ++ variable_e 2) (mask_e 255)) (by_rule 12)) 0 0 2
+    ∷ sample (to_checker (of_two 0 (mask_e 255) (mask_e 254)) (by_rule 12)) 16 20 0
+    ∷ sample (to_checker (of_two 0 (0x05 ∷ 0x01 ∷ constant_e 2) (constant_e 1)) (by_rule 12)) 16 20 0
     ∷ sample (to_checker (policy_s 8) package_shifted) 14 7 0
     ∷ sample (to_runner (policy_s 1) package_test (0 ∷ 61680 ∷ 15 ∷ replicate 13 0) (0 ∷ []) 9) 0 4 4
     ∷ sample (to_runner (policy_s 1) package_test (0 ∷ 61680 ∷ 14 ∷ replicate 13 0) (0 ∷ []) 9) 21 3 3
@@ -233,4 +241,26 @@ table_samples =
     ∷ sample (to_checker (policy_two 0x0b 1 0x06) (package_load 1)) 0 0 2
     -- a word that no region lies over
     ∷ sample (run_two 0x05 (package_store 2)) 21 1 1
+    ∷ []
+
+-- an expression and a constant past it
+abbrev pub past_e : List ℕ → (c : ℕ) → List ℕ
+past_e e c = 0x02 ∷ e ++ constant_e c
+
+-- S-3: rules 12 and 28
+abbrev pub difference_samples : List Sample
+difference_samples =
+    -- 12 and 8 past a base, past a masked term, past nothing
+    sample (to_checker (of_two 1 (past_e (variable_e 1) 12) (past_e (variable_e 1) 8)) (by_rule 28)) 0 0 2
+    ∷ sample (to_checker (of_two 1 (past_e (mask_e 255) 12) (mask_e 255)) (by_rule 28)) 0 0 2
+    ∷ sample (to_checker (of_two 1 (constant_e 12) (constant_e 8)) (by_rule 28)) 0 0 2
+    -- difference zero, also after a wrap; another base, another masked term
+    ∷ sample (to_checker (of_two 1 (past_e (variable_e 1) 12) (past_e (variable_e 1) 12)) (by_rule 28)) 16 20 0
+    ∷ sample (to_checker (of_two 1 (0x03 ∷ variable_e 1 ++ constant_e 4294967295) (past_e (variable_e 1) 1)) (by_rule 28)) 16 20 0
+    ∷ sample (to_checker (of_two 1 (past_e (variable_e 1) 12) (past_e (variable_e 2) 8)) (by_rule 28)) 16 20 0
+    ∷ sample (to_checker (of_two 1 (past_e (mask_e 255) 12) (past_e (mask_e 254) 8)) (by_rule 28)) 16 20 0
+    -- rule 28 gives no equality; rule 12 at a difference, and where 8 - 12 is 4294967292
+    ∷ sample (to_checker (of_two 0 (past_e (variable_e 1) 12) (past_e (variable_e 1) 8)) (by_rule 28)) 16 20 0
+    ∷ sample (to_checker (of_two 0 (past_e (variable_e 1) 12) (past_e (variable_e 1) 8)) (by_rule 12)) 16 20 0
+    ∷ sample (to_checker (of_two 0 (past_e (variable_e 1) 4294967292) (0x03 ∷ past_e (variable_e 1) 8 ++ constant_e 12)) (by_rule 12)) 0 0 2
     ∷ []

@@ -17,7 +17,7 @@ use Rattle.model.specs.Linear.{variable_bound}
 use Rattle.model.specs.Policy.{Policy, may_read, writable_region}
 use Rattle.model.specs.Goals.{Goal, Claim as Claimed, atom, readable, writable}
 use Rattle.model.specs.Rule.{Rule, Format, plain, with_index, with_term, with_region, rules, atom_of, sides_of, readable_of, writable_of, pair_of, sum_of, difference_of, mask_of, shift_of, equal_pairs, congruent, region_premises, premises}
-use Rattle.model.specs.Rule.{from_assumption, equal_reflexive, at_most_reflexive, evaluation, equal_symmetric, equal_transitive, at_most_transitive, less_at_most, at_most_less, at_most_of_less, at_most_of_equal, congruence, linear, zero_at_most, sum_monotone, difference_monotone, successor_at_most, below_successor, sum_no_overflow, less_of_at_most, unequal_of_less, unequal_symmetric, in_readable_region, in_writable_region, contradiction, mask_at_most, shift_at_most, shift_bounded}
+use Rattle.model.specs.Rule.{from_assumption, equal_reflexive, at_most_reflexive, evaluation, equal_symmetric, equal_transitive, at_most_transitive, less_at_most, at_most_less, at_most_of_less, at_most_of_equal, congruence, linear, zero_at_most, sum_monotone, difference_monotone, successor_at_most, below_successor, sum_no_overflow, less_of_at_most, unequal_of_less, unequal_symmetric, in_readable_region, in_writable_region, contradiction, mask_at_most, shift_at_most, shift_bounded, linear_unequal}
 use Rattle.model.specs.declared.Comparison.{Comparison}
 use Rattle.model.specs.declared.Region.{Region}
 use mathlib.Core.Bool.{Bool}
@@ -62,6 +62,7 @@ module _ (n : ℕ) where
   RuleBounded mask_at_most = Unit {0}
   RuleBounded shift_at_most = Unit {0}
   RuleBounded shift_bounded = Unit {0}
+  RuleBounded linear_unequal = Unit {0}
 
   -- an operation on two terms has no variables but theirs
   abbrev Bounding : (Term → Term → Term) → Type 0
@@ -168,7 +169,7 @@ module _ (n : ℕ) where
     premises_bounded at_most_of_less c r h = gives_then (sides_bounded _ c h) λ s k. gives (k & empty)
     premises_bounded at_most_of_equal c r h = gives_then (sides_bounded _ c h) λ s k. gives (k & empty)
     premises_bounded congruence c r h = gives_then (sides_bounded _ c h) λ s k. congruent_bounded s.0 s.1 k.0 k.1
-    premises_bounded linear c r h = gives_next λ _ _. gives_next λ _ _. gives empty
+    premises_bounded linear c r h = gives_next λ _ _. gives_next λ _ _. gives_next λ _ _. gives empty
     premises_bounded zero_at_most c r h = gives_next λ _ _. gives_next λ _ _. gives empty
     premises_bounded sum_monotone c r h =
         gives_then (sides_bounded _ c h) λ s k.
@@ -194,6 +195,7 @@ module _ (n : ℕ) where
     premises_bounded mask_at_most c r h = gives_next λ _ _. gives_next λ _ _. gives_next λ _ _. gives empty
     premises_bounded shift_at_most c r h = gives_next λ _ _. gives_next λ _ _. gives_next λ _ _. gives empty
     premises_bounded shift_bounded c r h = gives_next λ _ _. gives_next λ _ _. gives_next λ _ _. gives empty
+    premises_bounded linear_unequal c r h = gives_next λ _ _. gives_next λ _ _. gives_next λ _ _. gives empty
 
 -- ---- fields and expressions
 module _ (bytes : List ℕ) (end : ℕ) where
@@ -263,7 +265,7 @@ rules_bounded : (n : ℕ) → Every (FormatBounded n) rules
 rules_bounded n =
     let index : (i : ℕ) → Unit {0} = λ i. tt in
     let term : (m : Term) → variable_bound m ≤ n → variable_bound m ≤ n = λ m h. h in
-    index & tt & tt & tt & tt & term & term & term & term & tt & tt & tt & tt & tt & tt & tt & tt & tt & tt & tt & tt & tt & index & index & term & tt & tt & tt & empty
+    index & tt & tt & tt & tt & term & term & term & term & tt & tt & tt & tt & tt & tt & tt & tt & tt & tt & tt & tt & tt & index & index & term & tt & tt & tt & tt & empty
 
 pub rule_read : (bytes : List ℕ) (variables p : ℕ) → Gives (λ (r : Rule × ℕ). RuleBounded variables r.0 × (p < r.1) × (r.1 ≤ length bytes)) (rule_at bytes variables p)
 unfolding rule_at

@@ -51,7 +51,7 @@ bare_high : Bare 9 13
 unfolding down_from
 bare_high = search (◌&◌, empty) depth 60
 
-bare_last : Bare 25 3
+bare_last : Bare 25 4
 unfolding down_from
 bare_last = search (◌&◌, empty) depth 60
 
@@ -61,16 +61,16 @@ module _ (n : ℕ) where
       let e : from + (n - from) ≡ n = omega arith in
       subst (λ i. true ≡ bare (get_elem? rules i)) e (each_below count r (n - from) (omega arith))
 
-  pub row_unknown : 28 ≤ n → none ≡ get_elem? rules n
+  pub row_unknown : 29 ≤ n → none ≡ get_elem? rules n
   row_unknown h = sym (past_last rules n (omega arith))
 
   pub row_bare : 0 < n → (4 < n → 8 < n) → (21 < n → 24 < n) → true ≡ bare (get_elem? rules n)
-  row_bare z l h = go (dec_lt n 5) (dec_lt n 22) (dec_lt n 28)
+  row_bare z l h = go (dec_lt n 5) (dec_lt n 22) (dec_lt n 29)
     where
-      go : Dec (n < 5) → Dec (n < 22) → Dec (n < 28) → true ≡ bare (get_elem? rules n)
+      go : Dec (n < 5) → Dec (n < 22) → Dec (n < 29) → true ≡ bare (get_elem? rules n)
       go (yes a) b c = rows 1 4 bare_low z (omega arith)
       go (no a) (yes b) c = rows 9 13 bare_high (omega arith) (omega arith)
-      go (no a) (no b) (yes c) = rows 25 3 bare_last (omega arith) (omega arith)
+      go (no a) (no b) (yes c) = rows 25 4 bare_last (omega arith) (omega arith)
       go (no a) (no b) (no c) = ap bare (row_unknown (omega arith))
 
 -- ---- ways out

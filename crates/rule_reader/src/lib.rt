@@ -95,6 +95,7 @@ fn rule_of(number: u8, argument: usize) -> Option<Rule>
         25 => Some(Rule::MaskAtMost),
         26 => Some(Rule::ShiftAtMost),
         27 => Some(Rule::ShiftBounded),
+        28 => Some(Rule::LinearUnequal),
         _ => None,
     }
 }

@@ -11,7 +11,7 @@ use std::time::Duration;
 
 use generator::assemble::{package, Instruction, Policy, Region, READ, WRITE};
 use generator::random::Random;
-use generator::routine::{field_sample, plain_sample, protected_table, sample, Sample};
+use generator::routine::{field_sample, plain_sample, protected_table, table_sample, Sample};
 use generator::worst::worst_cases;
 
 mod stack;
@@ -76,7 +76,7 @@ fn checks() -> Vec<Check> {
         }
     }
     for segments in [8, 16, 24] {
-        if let Some(sample) = accepted(sample, stores_beside_protected, segments) {
+        if let Some(sample) = accepted(table_sample, stores_beside_protected, segments) {
             let name = format!("accepted: with protected words, segments: {segments}");
             add(&name, &sample.policy_bytes(), &sample.package_bytes());
         }

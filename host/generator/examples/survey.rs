@@ -13,7 +13,7 @@ fn main() {
     let mut answers: BTreeMap<u32, usize> = BTreeMap::new();
     let (mut goals, mut bytes, mut most_goals) = (0, 0, 0);
     let mut workspace = vec![0; reference::WORKSPACE_WORDS];
-    let mut rules = [0usize; 28];
+    let mut rules = [0usize; 29];
     for _ in 0..count {
         let sample = sample(&mut random, segments as usize);
         let (policy, package) = (sample.policy_bytes(), sample.package_bytes());
@@ -39,5 +39,5 @@ fn main() {
         goals / accepted,
         bytes / accepted
     );
-    println!("bytes 0 to 27 of their proofs: {rules:?}");
+    println!("bytes 0 to 28 of their proofs: {rules:?}");
 }

@@ -52,21 +52,28 @@ struct Kind {
     fields: bool,
     /// Tables with protected words, which most stores leave alone.
     tables: bool,
+    /// Words past a register that differ from each other.
+    distances: bool,
 }
 
 /// A random sample of about so many segments.
 pub fn sample(random: &mut Random, segments: usize) -> Sample {
-    sample_with(random, segments, Kind { fields: true, tables: true })
+    sample_with(random, segments, Kind { fields: true, tables: true, distances: true })
+}
+
+/// A random sample of about so many segments, with masks and shifts and with tables.
+pub fn table_sample(random: &mut Random, segments: usize) -> Sample {
+    sample_with(random, segments, Kind { fields: true, tables: true, distances: false })
 }
 
 /// A random sample of about so many segments, with masks and shifts and with any regions.
 pub fn field_sample(random: &mut Random, segments: usize) -> Sample {
-    sample_with(random, segments, Kind { fields: true, tables: false })
+    sample_with(random, segments, Kind { fields: true, tables: false, distances: false })
 }
 
 /// A random sample of about so many segments, without masks and shifts and with any regions.
 pub fn plain_sample(random: &mut Random, segments: usize) -> Sample {
-    sample_with(random, segments, Kind { fields: false, tables: false })
+    sample_with(random, segments, Kind { fields: false, tables: false, distances: false })
 }
 
 fn sample_with(random: &mut Random, segments: usize, kind: Kind) -> Sample {
@@ -151,7 +158,7 @@ fn prove(
                     Found::Derived(derivation) | Found::Misnamed(derivation) => {
                         proof.extend(derivation.bytes);
                     }
-                    Found::Nothing => proof.push(random.below(28) as u8),
+                    Found::Nothing => proof.push(random.below(29) as u8),
                 }
             }
             return Some((proof, proved));
@@ -534,7 +541,7 @@ impl<'a> Builder<'a> {
             }
             let &(other, least, most) = self.random.pick(&known);
             let second = register(other);
-            match self.random.below(8) {
+            match self.random.below(if self.kind.distances { 9 } else { 8 }) {
                 0 => {
                     if let Some(total) = high.checked_add(most) {
                         facts.push(Atom::at_most(&sum(&term, &second), &constant(total)));
@@ -554,6 +561,10 @@ impl<'a> Builder<'a> {
                 }
                 6 if high.checked_add(most).is_some() => {
                     facts.push(Atom::at_most(&term, &sum(&term, &second)));
+                }
+                8 => {
+                    let [far, near] = [12, 8].map(|distance| sum(&term, &constant(distance)));
+                    facts.push(Atom::unequal(&far, &near));
                 }
                 _ => {}
             }

@@ -350,7 +350,8 @@ impl<'a> Search<'a> {
             found.extend(by_form.map(|number| rule(number, &[])));
         }
         if found.is_empty() {
-            return Ok(None);
+            let apart = *comparison == Unequal && left.form().differs_by_constant(&right.form());
+            return Ok(apart.then(|| rule(28, &[])));
         }
         Ok(Some(found.swap_remove(self.random.below(found.len()))))
     }

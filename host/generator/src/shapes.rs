@@ -26,7 +26,7 @@ pub fn shape_case(random: &mut Random) -> Named {
     }
     // rules 22 and 23 need an access
     let rule =
-        if random.chance(4, 26) { 24 + random.below(4) as u8 } else { random.below(22) as u8 };
+        if random.chance(5, 27) { 24 + random.below(5) as u8 } else { random.below(22) as u8 };
     let mut instance = instance(rule, random);
     let mut byte = rule;
     let mut order: Vec<usize> = (0..instance.premises.len()).collect();
@@ -38,7 +38,7 @@ pub fn shape_case(random: &mut Random) -> Named {
         }
         4 => instance.argument = instance.argument.map(|term| changed(&term, random)),
         5 => random.shuffle(&mut order),
-        6 => byte = random.below(29) as u8,
+        6 => byte = random.below(30) as u8,
         _ => {}
     }
     let mut proof = vec![byte];
@@ -133,6 +133,12 @@ fn instance(rule: u8, random: &mut Random) -> Instance {
             let bound = u32::MAX >> if random.chance(1, 8) { small_count(random) } else { count };
             new(Atom::at_most(&shift(count, &a), &constant(bound)), vec![])
         }
+        28 => {
+            // right unless the two constants are the same
+            let [first, second] = [(); 2].map(|()| constant(small_constant(random)));
+            let other = sum(&rearranged(&a, random), &first);
+            new(Atom::unequal(&sum(&a, &second), &other), vec![])
+        }
         _ => through(Atom::new(any_comparison(random), &a, &b), vec![Atom::less(&m, &m)]),
     }
 }
@@ -145,9 +151,13 @@ fn small_count(random: &mut Random) -> u8 {
     *random.pick(&[0, 1, 1, 2, 30, 31])
 }
 
+fn small_constant(random: &mut Random) -> u32 {
+    *random.pick(&[0, 1, 2, 5, u32::MAX, 0x8000_0000])
+}
+
 fn small_term(random: &mut Random, depth: u32) -> Rc<Term> {
     match random.below(if depth == 0 { 4 } else { 9 }) {
-        0 => constant(*random.pick(&[0, 1, 2, 5, u32::MAX, 0x8000_0000])),
+        0 => constant(small_constant(random)),
         1..=3 => variable(random.below(4) as u16),
         4 | 5 => sum(&small_term(random, depth - 1), &small_term(random, depth - 1)),
         6 => mask(&small_term(random, depth - 1), &small_term(random, depth - 1)),

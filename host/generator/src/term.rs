@@ -198,6 +198,13 @@ pub struct Form {
     pub coefficients: BTreeMap<Rc<Term>, u32>,
 }
 
+impl Form {
+    /// Whether the other has the same coefficients and another constant.
+    pub fn differs_by_constant(&self, other: &Form) -> bool {
+        self.coefficients == other.coefficients && self.constant != other.constant
+    }
+}
+
 /// A comparison.
 #[derive(Clone, Copy, Debug, PartialEq, Eq)]
 pub enum Comparison {

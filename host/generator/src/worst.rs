@@ -167,6 +167,8 @@ pub fn worst_cases() -> Vec<Worst> {
         evaluation(),
         linear_forms(),
         linear_forms_of_many_variables(),
+        linear_forms_apart(),
+        linear_forms_of_many_variables_apart(),
         same_terms_again_and_again(),
         assumptions(),
         hundreds_of_assumptions(),
@@ -239,22 +241,39 @@ fn linear_forms() -> Worst {
         .build("12: linear forms of thousands of nodes", 0)
 }
 
-/// Rule 12 on sums of 60 loaded words.
-fn linear_forms_of_many_variables() -> Worst {
-    // register 1 is (0 - 0) + v16 + v17 + .., register 2 is register 1 - register 1
+/// Sets register 1 to the sum of 60 loaded words, (0 - 0) + v16 + v17 + ..
+fn sum_of_loads() -> Frame {
     let mut setup =
         vec![Instruction::Constant { d: 3, i: 0 }, Instruction::Subtract { d: 1, a: 3, b: 3 }];
     for word in 0..60 {
         setup.push(Instruction::Load { d: 4, a: 3, i: word });
         setup.push(Instruction::Add { d: 1, a: 1, b: 4 });
     }
-    setup.push(Instruction::Subtract { d: 2, a: 1, b: 1 });
-    let setup_proof = [22, 0, 3, 3].repeat(60);
+    Frame { setup, setup_proof: [22, 0, 3, 3].repeat(60), ..Frame::default() }
+}
+
+/// Rule 12 on sums of 60 loaded words.
+fn linear_forms_of_many_variables() -> Worst {
+    let mut frame = sum_of_loads();
+    frame.setup.push(Instruction::Subtract { d: 2, a: 1, b: 1 });
     let (atom, derivation) =
         spine(&leaves(2, 5), &leaves(2, 5), &leaves(2, 6), &[10, 12, 10, 12], &[10, 12]);
-    Frame { setup, setup_proof, ..Frame::default() }
-        .atoms(16, &atom, &derivation)
-        .build("12: linear forms of 60 variables", 0)
+    frame.atoms(16, &atom, &derivation).build("12: linear forms of 60 variables", 0)
+}
+
+/// Rule 28 on sums of thousands of nodes.
+fn linear_forms_apart() -> Worst {
+    let setup = [cancelled(1), cancelled(2)].concat();
+    let atom = Atom::unequal(&leaves(1, 16), &sum(&leaves(2, 15), &constant(1)));
+    Frame { setup, ..Frame::default() }
+        .atoms(16, &atom, &[28])
+        .build("28: linear forms of thousands of nodes", 0)
+}
+
+/// Rule 28 on sums of 60 loaded words.
+fn linear_forms_of_many_variables_apart() -> Worst {
+    let atom = Atom::unequal(&leaves(1, 15), &sum(&leaves(1, 15), &constant(1)));
+    sum_of_loads().atoms(16, &atom, &[28]).build("28: linear forms of 60 variables", 0)
 }
 
 /// Rule 2 on sums of 1,530 nodes, 31 times in each derivation: 0 + c ≤ (0 + c) + c.

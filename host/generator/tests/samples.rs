@@ -193,6 +193,8 @@ fn single_rules_are_accepted_and_refused() {
         counts.entry(name).or_default()[usize::from(verdict.number > 0)] += 1;
     }
     println!("{counts:?}");
+    // rules 0 to 28
+    assert_eq!(counts.len(), 29);
     for (name, [accepted, refused]) in counts {
         assert!(accepted > 50 && refused > 50, "{name}: {accepted}, {refused}");
     }

@@ -166,7 +166,7 @@ impl<'a> Prover<'a> {
             }
             12 => {
                 let (a, b) = sides(Equal)?;
-                fit(self.terms.same_form(a, b))
+                fit(self.terms.form_difference(a, b) == Some(0))
             }
             13 => {
                 let (zero, _) = sides(AtMost)?;
@@ -269,6 +269,10 @@ impl<'a> Prover<'a> {
                     }
                     _ => Err(misfit),
                 }
+            }
+            28 => {
+                let (a, b) = sides(Unequal)?;
+                fit(self.terms.form_difference(a, b).is_some_and(|difference| difference != 0))
             }
             _ => Err(misfit),
         }

@@ -1,7 +1,7 @@
-//! The loader of document 01, with the requests of document 02 up to S-1, in plain Rust.
+//! The loader of document 01, with S-1 to S-3 of document 02, in plain Rust.
 //!
 //! [`check`] judges a policy and a package, [`run`] executes a package on the machine and
-//! [`find_proof`] finds a package's proof section. The crate is written from these documents alone
+//! [`find_proof`] finds a package's proof section. The crate is written from these documents
 //! and shares nothing with the proved library, so that the two can be compared.
 
 #![forbid(unsafe_code)]

@@ -44,9 +44,9 @@ pub struct Terms {
     /// Numbers by hash with linear probing, [`FREE`] where there is none. Terms are forgotten in
     /// the opposite order of their making, so that no probe ever passes a slot given back.
     table: Vec<u32>,
-    /// For [`Terms::same_form`]: the weight of each term, zero between calls.
+    /// For [`Terms::form_difference`]: the weight of each term, zero between calls.
     weights: Vec<u32>,
-    /// For [`Terms::same_form`]: one bit for each term still to be weighed.
+    /// For [`Terms::form_difference`]: one bit for each term still to be weighed.
     pending: Vec<u64>,
 }
 
@@ -133,15 +133,15 @@ impl Terms {
         }
     }
 
-    /// Whether two terms have the same constant and the same coefficient of each variable, a
-    /// masked or shifted term being one more variable.
+    /// The left term's constant less the right's, if each variable has the same coefficient in
+    /// both, a masked or shifted term being one more variable.
     ///
     /// Weighs the left term by 1 and the right by -1 and hands each weight down to the parts of
-    /// sums and differences, whole terms before their parts; what is left over must be nothing.
+    /// sums and differences, whole terms before their parts; nothing but constants may be left.
     /// Each term is weighed once, however often it is part of the two.
-    pub fn same_form(&mut self, left: Term, right: Term) -> bool {
+    pub fn form_difference(&mut self, left: Term, right: Term) -> Option<u32> {
         if left == right {
-            return true;
+            return Some(0);
         }
         let count = self.nodes.len();
         if self.weights.len() < count {
@@ -178,7 +178,7 @@ impl Terms {
                 }
             }
         }
-        same && constant == 0
+        same.then_some(constant)
     }
 
     fn weigh(&mut self, term: Term, weight: u32) {
@@ -320,7 +320,7 @@ mod tests {
     #[test]
     fn forms_agree_with_coefficients() {
         let mut state = 1;
-        let mut same = 0;
+        let (mut same, mut apart) = (0, 0);
         for _ in 0..50 {
             let mut terms = Terms::new();
             let mut made = Terms::registers()[..3].to_vec();
@@ -337,18 +337,25 @@ mod tests {
                     _ => terms.variable(random(&mut state, 19) as u16),
                 });
             }
-            let forms: Vec<_> = made.iter().map(|&term| form(&terms, term)).collect();
-            for (&left, first) in made.iter().zip(&forms) {
-                for (&right, second) in made.iter().zip(&forms) {
-                    let expected = first == second;
-                    assert_eq!(terms.same_form(left, right), expected);
-                    same += usize::from(expected && left != right);
+            let forms: Vec<_> = made
+                .iter()
+                .map(|&term| {
+                    let mut form = form(&terms, term);
+                    (form.remove("1").unwrap_or(0), form)
+                })
+                .collect();
+            for (&left, (first, weights)) in made.iter().zip(&forms) {
+                for (&right, (second, others)) in made.iter().zip(&forms) {
+                    let expected = (weights == others).then(|| first.wrapping_sub(*second));
+                    assert_eq!(terms.form_difference(left, right), expected);
+                    same += usize::from(expected == Some(0) && left != right);
+                    apart += usize::from(!matches!(expected, None | Some(0)));
                 }
             }
             assert!(terms.weights.iter().all(|&weight| weight == 0));
             assert!(terms.pending.iter().all(|&group| group == 0));
         }
-        assert!(same > 100);
+        assert!(same > 100 && apart > 100, "{same}, {apart}");
     }
 
     #[test]

@@ -1,7 +1,7 @@
 use Rattle.claims.proofs.StepLaws.{steps}
 use native.Mathlib.Omega.{arith}
 use Rattle.claims.proofs.PlanLaws.{fits, formed_at, stays}
-use Rattle.arithmetic_rules.specs.Monotone.{monotone_premises}
+use Rattle.arithmetic_rules.specs.Sides.{monotone_premises}
 use Rattle.arithmetic_rules.proofs.ArithmeticLaws.{sum_is}
 use Rattle.arithmetic_rules.proofs.monotone.Goals as goal
 

@@ -1,6 +1,7 @@
+use Rattle.model.specs.Atom.{compares}
 use Rattle.model.specs.Rule.{premises, sum_of, difference_of}
 use Rattle.logic_rules.specs.Sides.{reflexive_premises, exchanged_premises, through_premises, weakened_premises}
-use Rattle.arithmetic_rules.specs.Monotone.{monotone_premises}
+use Rattle.arithmetic_rules.specs.Sides.{monotone_premises, apart_premises}
 use Rattle.derivation.proofs.ChoiceLaws.{chosen_anywhere}
 use Rattle.derivation.proofs.planned.Goals as goal
 
@@ -40,6 +41,10 @@ pub returns-in-AtMostOfEqual : goal.returns-in-AtMostOfEqual
 unfolding premises weakened_premises
 returns-in-AtMostOfEqual c = chosen_anywhere _ _ c.in-AtMostOfEqual.is (c.weakened-in-AtMostOfEqual.ensures _ c.requires.prepared.formed)
 
+pub returns-in-Linear : goal.returns-in-Linear
+unfolding premises apart_premises compares
+returns-in-Linear c = chosen_anywhere _ _ c.in-Linear.is c.apart.ensures
+
 pub returns-in-SumMonotone : goal.returns-in-SumMonotone
 unfolding premises monotone_premises sum_of difference_of
 returns-in-SumMonotone c = chosen_anywhere _ _ c.in-SumMonotone.is c.monotone.ensures
@@ -58,3 +63,7 @@ returns-in-UnequalSymmetric c = chosen_anywhere _ _ c.in-UnequalSymmetric.is (c.
 
 pub returns-in-Contradiction : goal.returns-in-Contradiction
 returns-in-Contradiction c = chosen_anywhere _ _ c.in-Contradiction.is (c.contradicted.ensures _ c.requires.prepared.formed _)
+
+pub returns-in-LinearUnequal : goal.returns-in-LinearUnequal
+unfolding premises apart_premises compares
+returns-in-LinearUnequal c = chosen_anywhere _ _ c.in-LinearUnequal.is c.apart-in-LinearUnequal.ensures
