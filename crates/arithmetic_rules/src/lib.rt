@@ -2,9 +2,10 @@
 #![tactic(auto, using(claims::proofs::StepLaws::steps), unfolding(model::specs::Rule::premises, model::specs::Rule::sum_of, crate::specs::Sides::monotone_premises, crate::specs::Sides::apart_premises))]
 
 ghost use Rattle.model.specs.Rule.{congruence, zero_at_most, successor_at_most, below_successor, sum_no_overflow};
+ghost use Rattle.workspace.specs.Room.{new_nodes};
 ghost use Rattle.nodes.specs.Table.{Formed, Space};
 ghost use Rattle.claims.specs.Parts.{claim_of, ClaimBelow};
-ghost use Rattle.claims.specs.Plan.{filled, new_nodes, Planned, Anywhere, asks, always};
+ghost use Rattle.claims.specs.Plan.{filled, Planned, Anywhere, asks, always};
 ghost use Rattle.arithmetic_rules.specs.Forms.{Linear};
 ghost use Rattle.arithmetic_rules.specs.Sides.{monotone_premises, apart_premises};
 

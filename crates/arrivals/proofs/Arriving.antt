@@ -14,6 +14,7 @@ use Rattle.model.specs.declared.Comparison.TheVariants.{AtMost}
 use Rattle.model.specs.declared.ReadError.{ReadError}
 use Rattle.workspace.specs.Layout.{Same}
 use Rattle.workspace.proofs.Frames.{same_trans}
+use Rattle.workspace.specs.Room.{derivation_room, atom_room, credit_room, goal_room}
 use Rattle.nodes.specs.Atoms.{node_atom}
 use Rattle.nodes.specs.Table.{place, term_at, Put}
 use Rattle.leaf_reader.specs.Leaves.{Grown}
@@ -29,7 +30,7 @@ use Rattle.refusals.specs.declared.Refused.{Refused}
 use Rattle.goals.specs.declared.Progress.{Progress}
 use Rattle.goals.specs.Judging.{Judges}
 use Rattle.paths.specs.Walking.{path_of, raised_to, OverRegisters, NodeIn, PathIn, ClaimIn}
-use Rattle.goals.specs.Room.{Going, derivation_room, atom_room, credit_room, goal_room}
+use Rattle.goals.specs.Room.{Going}
 use Rattle.goals.specs.Settling.{Left, GoalJudged, AtomsJudged}
 use Rattle.arrivals.specs.Arriving.{CreditsJudged, ArrivalJudged, ReturnJudged}
 use Rattle.paths.proofs.Reading.{same_value}

@@ -4,7 +4,8 @@
 ghost use Rattle.std.specs.Prelude.{◌+◌, ◌<◌, ◌≤◌, length};
 ghost use Rattle.nodes.specs.Table.{term_at};
 ghost use Rattle.paths.specs.Walking.{NodeIn};
-ghost use Rattle.goals.specs.Room.{Going, credit_room, goal_room};
+ghost use Rattle.workspace.specs.Room.{credit_room, goal_room};
+ghost use Rattle.goals.specs.Room.{Going};
 ghost use Rattle.arrivals.specs.Arriving.{CreditsJudged, ArrivalJudged, ReturnJudged};
 
 use blocks::Block;

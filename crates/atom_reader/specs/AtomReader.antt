@@ -4,8 +4,9 @@ use Rattle.model.specs.Result.{Result, map_ok}
 use Rattle.model.specs.Term.{Term}
 use Rattle.model.specs.Atom.{Atom}
 use Rattle.model.specs.declared.ReadError.{ReadError}
-use Rattle.model.specs.Expression.{atom_at, most_nodes}
+use Rattle.model.specs.Expression.{atom_at}
 use Rattle.workspace.specs.Layout.{Same}
+use Rattle.workspace.specs.Room.{atom_nodes}
 use Rattle.nodes.specs.Atoms.{atom_in, AtomBelow}
 use Rattle.nodes.specs.Table.{place, Formed}
 use Rattle.leaf_reader.specs.Leaves.{over, variable_term}
@@ -18,10 +19,6 @@ over_atom σ a = record { kind = a.kind; left = over σ a.left; right = over σ 
 
 abbrev pub atom_over : (σ : ℕ → Term) → Result (Atom × ℕ) ReadError → Result (Atom × ℕ) ReadError
 atom_over σ x = map_ok (λ y. (over_atom σ y.0, y.1)) x
-
--- the nodes of an atom's two sides
-abbrev pub atom_nodes : ℕ
-atom_nodes = most_nodes + most_nodes
 
 -- what stands in a source, over the terms of the registers in the words ws
 abbrev pub atom_read : (ws : List ℕ) → Source → (at : ℕ) → Result (Atom × ℕ) ReadError

@@ -3,7 +3,8 @@
 
 ghost use Rattle.std.specs.Prelude.{◌≡◌};
 ghost use Rattle.leaf_reader.specs.Leaves.{Ready};
-ghost use Rattle.atom_reader.specs.AtomReader.{atom_nodes, atom_answer, atom_read, AtomGrown};
+ghost use Rattle.workspace.specs.Room.{atom_nodes};
+ghost use Rattle.atom_reader.specs.AtomReader.{atom_answer, atom_read, AtomGrown};
 
 use leaf_reader::Source;
 use model::{Comparison, ReadError};

@@ -3,13 +3,13 @@ use Rattle.std.specs.Prelude.{◌≡◌, List, [], map, ◌++◌, ℕ, ◌+◌, 
 use Rattle.model.specs.Result.{Ok}
 use Rattle.model.specs.Term.{constant, variable}
 use Rattle.model.specs.Atom.{Atom, most_atoms}
-use Rattle.model.specs.Expression.{register_count, most_nodes, expression_at, atoms_at}
+use Rattle.model.specs.Expression.{register_count, expression_at, atoms_at}
 use Rattle.model.specs.Annotation.{Annotation}
 use Rattle.model.specs.Goals.{register_variables, block_start, assuming, Path as ModelPath}
 use Rattle.model.specs.Verdict.{least_workspace}
 use Rattle.workspace.specs.Layout.{most_assumptions, table_base, Same}
+use Rattle.workspace.specs.Room.{atom_nodes, start_room}
 use Rattle.nodes.specs.Table.{term_at, place, Formed, Space}
-use Rattle.atom_reader.specs.AtomReader.{atom_nodes}
 use Rattle.assumptions.specs.Area.{slot}
 use Rattle.forms.specs.Area.{Cleared}
 use Rattle.rule_reader.specs.Opening.{register_nodes}
@@ -77,10 +77,6 @@ pub record AllAssumed (ws us : List ℕ) (path : Path) (bytes : List ℕ) (end :
   pub variables : r.variables ≡ path.variables
 
 -- ---- blocks
--- nodes of a block's start: the variables, a credit, sixteen atoms
-abbrev pub start_room : ℕ
-start_room = register_count + most_nodes + atom_nodes * most_atoms
-
 -- the block's path and its credit, at an index
 pub record BlockIn (us : List ℕ) (index : ℕ) (r : Block) : Type 0 where
   pub inside : PathIn us r.path

@@ -8,6 +8,7 @@ use Rattle.model.specs.Goals.{Goal, Claim as Claimed}
 use Rattle.model.specs.Rule.{Rule, premises}
 use Rattle.model.specs.declared.Misfit.{Misfit}
 use Rattle.workspace.specs.Layout.{Same}
+use Rattle.workspace.specs.Room.{new_nodes}
 use Rattle.nodes.specs.Atoms.{atom_in, AtomBelow}
 use Rattle.nodes.specs.Table.{place, Formed}
 use Rattle.nodes.specs.declared.Atom.{Atom as NodeAtom}
@@ -44,10 +45,6 @@ abbrev pub plan_of : List ℕ → Result Plan Misfit → Fit (List Atom)
 plan_of us r = map_ok (premises_of us) r
 
 -- ---- the contract
--- nodes that a rule may make
-abbrev pub new_nodes : ℕ
-new_nodes = 4
-
 -- the words us keep those below top, and the table has grown to `high`, by a rule's new nodes at most
 pub record Grows (ws us : List ℕ) (top high : ℕ) : Type 0 where
   pub kept : Same 0 (place top) ws us

@@ -25,10 +25,11 @@ use Rattle.nodes.specs.Atoms.{atom_in}
 use Rattle.nodes.specs.Table.{place, Space}
 use Rattle.nodes.specs.declared.Atom.{Atom as NodeAtom}
 use Rattle.workspace.proofs.Frames.{same_refl, same_trans, same_within}
+use Rattle.workspace.specs.Room.{level_room}
 use Rattle.claims.specs.Parts.{claim_of}
 use Rattle.claims.specs.Plan.{listed, premises_of}
 use Rattle.claims.specs.Regions.{RegionList}
-use Rattle.derivation.specs.Deriving.{Judged, Prepared, Derivable, applied, PremiseWithin, Applies, Derives, level_room}
+use Rattle.derivation.specs.Deriving.{Judged, Prepared, Derivable, applied, PremiseWithin, Applies, Derives}
 use Rattle.claims.specs.declared.Claim.{Claim}
 use Rattle.claims.specs.declared.Claim.TheVariants.{Atom as AtomClaim}
 use Rattle.claims.specs.declared.Scope.{Scope}

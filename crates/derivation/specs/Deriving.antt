@@ -9,8 +9,9 @@ use Rattle.model.specs.Rule.{premises}
 use Rattle.model.specs.Derivation.{rule_at, derive}
 use Rattle.model.specs.declared.Refusal.{Refusal}
 use Rattle.model.specs.declared.Refusal.TheVariants.{UnfitRule}
-use Rattle.model.specs.Expression.{register_count, most_nodes}
+use Rattle.model.specs.Expression.{register_count}
 use Rattle.workspace.specs.Layout.{Same, most_variables}
+use Rattle.workspace.specs.Room.{new_nodes, level_room}
 use Rattle.nodes.specs.Atoms.{atom_in, AtomBelow}
 use Rattle.nodes.specs.Table.{place, Formed, Space}
 use Rattle.nodes.specs.declared.Atom.{Atom as NodeAtom}
@@ -19,7 +20,7 @@ use Rattle.assumptions.specs.Area.{listed, Listed}
 use Rattle.forms.specs.Area.{Cleared}
 use Rattle.claims.specs.Parts.{claim_of, ClaimBelow}
 use Rattle.model_laws.specs.Bounded.{AtomBounded, ClaimBounded}
-use Rattle.claims.specs.Plan.{listed as premises_listed, premises_of, new_nodes}
+use Rattle.claims.specs.Plan.{listed as premises_listed, premises_of}
 use Rattle.claims.specs.Regions.{RegionList}
 use Rattle.claims.specs.Rules.{RuleBelow}
 use Rattle.rule_reader.specs.Opening.{register_nodes}
@@ -52,10 +53,6 @@ pub record Plannable (ws : List ℕ) (regions : List Region) (scope : Scope) (ru
   pub below : ClaimBelow top claim
   pub bounded : ClaimBounded scope.variables (claim_of ws claim)
   pub held : RuleBelow top rule
-
--- nodes that a level of a derivation may make: an argument, and a rule's own
-abbrev pub level_room : ℕ
-level_room = most_nodes + new_nodes
 
 -- what a derivation of at most so many levels needs
 pub record Derivable (ws : List ℕ) (regions : List Region) (scope : Scope) (levels top : ℕ) (claim : Claim) : Type 0 where

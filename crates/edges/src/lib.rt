@@ -42,10 +42,10 @@ impl<R: Print> Desk<'_, R> {
     }
 }
 
-// Instruction counts 256 and 257: assignments and a return, under a limit of as many steps.
+// Instruction counts 512 and 513: assignments and a return, under a limit of as many steps.
 pub fn instruction_counts<R: Print>(desk: &mut Desk<R>) -> io::Result<()> {
-    desk.show("n = 256", Policy::small(256), Package::Assignments(255))?;
-    desk.show("n = 257", Policy::small(256), Package::Assignments(256))
+    desk.show("n = 512", Policy::small(512), Package::Assignments(511))?;
+    desk.show("n = 513", Policy::small(513), Package::Assignments(512))
 }
 
 // The longest package, and one byte more.

@@ -20,6 +20,7 @@ use Rattle.leaf_reader.specs.declared.sources.Source.{Source}
 use Rattle.atom_reader.specs.AtomReader.{AtomGrown, atom_answer, atom_read}
 use Rattle.atom_reader.specs.declared.AtomParsed.{AtomParsed}
 use Rattle.workspace.proofs.Frames.{same_refl, same_trans, same_within}
+use Rattle.workspace.specs.Room.{derivation_room, atom_room}
 use Rattle.policy.specs.declared.Condition.{Condition}
 use Rattle.claims.specs.Parts.{claim_of}
 use Rattle.claims.specs.declared.Claim.{Claim}
@@ -31,7 +32,7 @@ use Rattle.refusals.specs.declared.Refused.{Refused}
 use Rattle.goals.specs.declared.Progress.{Progress}
 use Rattle.goals.specs.Judging.{Judges}
 use Rattle.paths.specs.Walking.{path_of, raised_to, scope_of, OverRegisters, NodeIn, ClaimIn, PathIn}
-use Rattle.goals.specs.Room.{Going, derivation_room, atom_room}
+use Rattle.goals.specs.Room.{Going}
 use Rattle.goals.specs.Settling.{Left, GoalJudged, AtomsJudged}
 use Rattle.paths.proofs.Reading.{no_atoms, first_atom, after_atom}
 use Rattle.goals.proofs.Judging.{judges_none, judges_refused, judges_derived, judges_stopped, judges_both}

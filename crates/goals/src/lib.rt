@@ -4,7 +4,8 @@
 ghost use Rattle.std.specs.Prelude.{◌≡◌, ◌≤◌, length};
 ghost use Rattle.claims.specs.Parts.{claim_of};
 ghost use Rattle.paths.specs.Walking.{ClaimIn};
-ghost use Rattle.goals.specs.Room.{Going, derivation_room, atom_room};
+ghost use Rattle.workspace.specs.Room.{derivation_room, atom_room};
+ghost use Rattle.goals.specs.Room.{Going};
 ghost use Rattle.goals.specs.Settling.{GoalJudged, AtomsJudged};
 
 use claims::{Claim, Goal, Scope};

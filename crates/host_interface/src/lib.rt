@@ -1,10 +1,11 @@
 // The loader for hosts in C and Rust: numbers and slices only. A slice is passed as a pointer and a length; each answer goes into an
-// array of the caller's.
+// array of the caller's. The answers to a package whose n is not 257 to 512 are those with the former limit (`longer`).
 #![tactic(auto)]
 
 ghost use Rattle.std.specs.Prelude.{◌≡◌};
 ghost use Rattle.model.specs.Package.{proof_section};
 ghost use Rattle.model.specs.Runner.{run_of};
+ghost use Rattle.former.specs.Instructions.{LongerRoutines};
 ghost use Rattle.host_interface.specs.Exported.{CheckExported, RunExported, FindExported};
 
 // loader::check: number, place and goals go into `answer`.
@@ -15,7 +16,8 @@ pub extern "C" fn pcc_check(
     routine: &[u8],
     answer: &mut [u64; 3],
 )
-    ensures { CheckExported workspace.old policy.now routine.now workspace.new answer.new }
+    ensures longer { LongerRoutines routine.now }
+    ensures exported { CheckExported workspace.old policy.now routine.now workspace.new answer.new }
 {
     let verdict = loader::check(workspace, policy, routine);
     *answer = [
@@ -35,7 +37,8 @@ pub extern "C" fn pcc_run(
     budget: u32,
     answer: &mut [u64; 3],
 )
-    ensures { RunExported (run_of policy.now routine.now registers.old memory.old budget) policy.now memory.old registers.new memory.new answer.new }
+    ensures longer { LongerRoutines routine.now }
+    ensures exported { RunExported (run_of policy.now routine.now registers.old memory.old budget) policy.now memory.old registers.new memory.new answer.new }
 {
     let outcome = loader::run(policy, routine, registers, memory, budget);
     *answer = [
@@ -55,7 +58,8 @@ fn start(bytes: &[u8]) -> usize
 // loader::find_answer and loader::find_proof: number, place and the proof section's start go into `answer`, its length is the result.
 #[unsafe(no_mangle)]
 pub extern "C" fn pcc_find_proof(routine: &[u8], answer: &mut [u64; 3]) -> usize
-    ensures { FindExported routine.now answer.new result }
+    ensures longer { LongerRoutines routine.now }
+    ensures exported { FindExported routine.now answer.new result }
 {
     let finding = loader::find_answer(routine);
     let start = start(routine);

@@ -5,10 +5,11 @@ ghost use Rattle.std.specs.Prelude.{◌≡◌, ◌≤◌, ◌<◌};
 ghost use Rattle.model.specs.Expression.{register_count};
 ghost use Rattle.model.specs.Goals.{jump, path_to, ends, returning};
 ghost use Rattle.model.specs.Package.{most_instructions};
+ghost use Rattle.workspace.specs.Room.{goal_room};
 ghost use Rattle.nodes.specs.Table.{term_at};
 ghost use Rattle.goals.specs.Judging.{Reached};
 ghost use Rattle.paths.specs.Walking.{path_of, NodeIn};
-ghost use Rattle.goals.specs.Room.{Going, goal_room};
+ghost use Rattle.goals.specs.Room.{Going};
 ghost use Rattle.moves.specs.Moves.{RoomFor, Moves};
 ghost use Rattle.jumps.specs.Jumps.{opposite_of, MovesBy, Returning, Branches, Arrives};
 

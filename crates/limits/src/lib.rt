@@ -3,7 +3,7 @@
 #![tactic(auto)]
 
 // most_instructions: instructions of a routine.
-pub const MOST_INSTRUCTIONS: usize = 256;
+pub const MOST_INSTRUCTIONS: usize = 512;
 
 // most_annotations: annotations of a routine.
 pub const MOST_ANNOTATIONS: usize = 64;

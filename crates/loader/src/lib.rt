@@ -1,13 +1,14 @@
-// The loader's public face.
+// The loader's public face. A package whose n is not 257 to 512 has the answers that it had when n was at most 256 (clauses `former`).
 #![tactic(auto)]
 
-ghost use Rattle.std.specs.Prelude.{◌≡◌, ◌+◌, ℕ, length};
+ghost use Rattle.std.specs.Prelude.{◌≡◌, ◌+◌, ℕ, false, length};
 ghost use Rattle.std.proofs.Math.ListN.{get_elem?};
 ghost use Rattle.model.specs.Package.{proof_section, finder_answer};
 ghost use Rattle.model.specs.Runner.{run_of};
 ghost use Rattle.model.specs.Verdict.{check_of, workspace_after};
 ghost use Rattle.model.specs.Property.{Safe};
 ghost use Rattle.model.specs.Kept.{Protected};
+ghost use Rattle.former.specs.Instructions.{long_routine, former_check, former_run, former_section, former_finding};
 
 use model::{Finding, Outcome, Verdict};
 
@@ -17,6 +18,7 @@ pub fn check(workspace: &mut [u32], policy: &[u8], routine: &[u8]) -> Verdict
     ensures verdict { result ≡ check_of (length workspace.old) policy.now routine.now }
     ensures left { workspace.new ≡ workspace_after workspace.old }
     ensures safe { result.number ≡ 0 → Safe policy.now routine.now }
+    ensures former { long_routine routine.now ≡ false → result ≡ former_check (length workspace.old) policy.now routine.now }
 {
     checker::check(workspace, policy, routine)
 }
@@ -33,6 +35,7 @@ pub fn run(
 ) -> Outcome
     ensures outcome { record { outcome = result; registers = registers.new; memory = memory.new } ≡ run_of policy.now routine.now registers.old memory.old budget }
     ensures kept { (word : ℕ) → Protected policy.now word → get_elem? memory.new word ≡ get_elem? memory.old word }
+    ensures former { long_routine routine.now ≡ false → record { outcome = result; registers = registers.new; memory = memory.new } ≡ former_run policy.now routine.now registers.old memory.old budget }
 {
     runner::run(policy, routine, registers, memory, budget)
 }
@@ -41,13 +44,15 @@ pub fn run(
 pub fn find_proof(routine: &[u8]) -> &[u8]
     ensures contents { result.now ≡ (proof_section routine.now).contents }
     ensures position { (result.ref_ptr.0 ≡ routine.entry.ref_ptr.0) × (result.ref_ptr.1 ≡ routine.entry.ref_ptr.1 + (proof_section routine.now).start) }
+    ensures former { long_routine routine.now ≡ false → (result.now ≡ (former_section routine.now).contents) × (result.ref_ptr.1 ≡ routine.entry.ref_ptr.1 + (former_section routine.now).start) }
 {
     header::finder::find_proof(routine)
 }
 
 // Why the finder hands back an empty part: 7 and its place, or 0 and 0 where check 7 passes.
 pub fn find_answer(routine: &[u8]) -> Finding
-    ensures { result ≡ finder_answer routine.now }
+    ensures answer { result ≡ finder_answer routine.now }
+    ensures former { long_routine routine.now ≡ false → result ≡ former_finding routine.now }
 {
     header::finder::find_answer(routine)
 }

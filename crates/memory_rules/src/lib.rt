@@ -3,7 +3,8 @@
 
 ghost use Rattle.nodes.specs.Table.{Formed, Space};
 ghost use Rattle.claims.specs.Parts.{claim_of, ClaimBelow};
-ghost use Rattle.claims.specs.Plan.{filled, new_nodes, Planned, asks};
+ghost use Rattle.workspace.specs.Room.{new_nodes};
+ghost use Rattle.claims.specs.Plan.{filled, Planned, asks};
 ghost use Rattle.claims.specs.Regions.{RegionList, Over};
 ghost use Rattle.memory_rules.specs.Access.{region_rule};
 

@@ -9,6 +9,7 @@ use lib.Dec.{eqb}
 use lib.ListN.{length}
 use borrow.Author.Tests.{eqb-true}
 use Rattle.model.specs.Annotation.{Annotation, annotation_at}
+use Rattle.model.specs.Package.{most_instructions}
 use Rattle.model.specs.Routine.{Routine}
 use Rattle.model.specs.declared.Instruction.{Instruction}
 use Rattle.model.specs.declared.Instruction.TheVariants.{Set, Add, AddImmediate, Subtract, Load, Store, Jump, JumpLess, JumpEqual, Return, Mask, Shift}
@@ -36,7 +37,7 @@ pub record FormedAnnotation (size : ℕ) (a : Annotation) : Type 0 where
   pub atoms : Every RegisterAtom a.atoms
 
 pub record FormedRoutine (routine : Routine) : Type 0 where
-  pub few : length routine.code ≤ 256
+  pub few : length routine.code ≤ most_instructions
   pub code : Every WordInstruction routine.code
   pub annotations : Every (FormedAnnotation (length routine.code)) routine.annotations
 

@@ -11,6 +11,7 @@ use Rattle.model.specs.Annotation.{Annotation}
 use Rattle.model.specs.Atom.{Atom, at_most, Compares, Holds, AllHold, registers_of}
 use Rattle.model.specs.Goals.{Path, term_of, address_term, goal_of, path_to, onward, assuming, atom_goals, arrival, returning, atom, readable, writable}
 use Rattle.model.specs.Machine.{State, word, address, assigned, stored, jumped, step, next, returns, without_right, past_end}
+use Rattle.model.specs.Package.{most_instructions}
 use Rattle.model.specs.Policy.{Policy, readable_word, writable_word}
 use Rattle.model.specs.Property.{Words}
 use Rattle.model.specs.Term.{Term, eval, substitute, constant, difference}
@@ -28,7 +29,7 @@ pub record Matches (policy : Policy) (env : ℕ → ℕ) (s : Path) (m : State) 
   pub counter : m.counter ≡ s.counter
   pub registers : map (eval env) s.registers ≡ m.registers
   pub assumed : AllHold env s.assumptions
-  pub few : s.steps ≤ 256
+  pub few : s.steps ≤ most_instructions
   pub words : Words policy m.registers m.memory
 
 module _ {policy : Policy} {env : ℕ → ℕ} {s : Path} {m : State} (h : Matches policy env s m) where
@@ -63,7 +64,7 @@ module _ {policy : Policy} {env : ℕ → ℕ} {s : Path} {m : State} (h : Match
         (subst (λ (l : List ℕ). Holds (registers_of l) a) h.registers here, atoms_hold atoms gs)
 
     module _ (credit : Term) where
-      enough : (k : ℕ) → k ≤ 256 → GoalHolds policy (goal_of s (atom (at_most (constant k) credit))) → k ≤ eval env credit
+      enough : (k : ℕ) → k ≤ most_instructions → GoalHolds policy (goal_of s (atom (at_most (constant k) credit))) → k ≤ eval env credit
       unfolding ClaimHolds Holds Compares eval
       enough k l g =
           let wrapped : k % 2 ^ 32 ≤ eval env credit = g env word_env h.assumed in
@@ -98,13 +99,13 @@ module _ {policy : Policy} {env : ℕ → ℕ} {s : Path} {m : State} (h : Match
         unfolding returning
         returned_atoms = atoms_hold policy.postcondition (every_left (atom_goals s policy.postcondition) _ gs)
 
-        pub returned_credit : s.steps + 1 ≤ 256 → s.steps + 1 ≤ eval env credit
+        pub returned_credit : s.steps + 1 ≤ most_instructions → s.steps + 1 ≤ eval env credit
         unfolding returning
         returned_credit l = enough (s.steps + 1) l (every_head (every_right (atom_goals s policy.postcondition) _ gs))
 
   -- ---- how the match goes on
 
-  module _ (room : s.steps + 1 ≤ 256) where
+  module _ (room : s.steps + 1 ≤ most_instructions) where
     -- an assignment of a term's value, whatever variables there are then
     pub assigned_matches : (variables d : ℕ) (t : Term) (w : ℕ) → eval env t ≡ w → w < 2 ^ 32
         → Matches policy env
@@ -190,7 +191,7 @@ module _ (policy : Policy) (code : List Instruction) where
   -- each further variable is what the machine will load.
   pub record Ahead (env : ℕ → ℕ) (left counter steps variables : ℕ) (m : State) : Type 0 where
     pub place : counter + left ≡ length code
-    pub room : steps + left ≤ 256
+    pub room : steps + left ≤ most_instructions
     pub foretold : (i : ℕ) → env (variables + i) ≡ get_or (loads left m) i 0 % 2 ^ 32
 
   -- after a step to u

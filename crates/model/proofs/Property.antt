@@ -13,7 +13,7 @@ use Rattle.model.specs.Annotation.{Annotation, annotation_at}
 use Rattle.model.specs.Atom.{Atom, AllHold, registers_of}
 use Rattle.model.specs.Goals.{register_variables, block_start, arrival, landing, walk, entry_block, annotation_block, annotation_blocks, trace_of, finish}
 use Rattle.model.specs.Machine.{State, start_of}
-use Rattle.model.specs.Package.{code_of}
+use Rattle.model.specs.Package.{most_instructions, code_of}
 use Rattle.model.specs.Policy.{Policy, read_policy}
 use Rattle.model.specs.Property.{Words, Returns, Property}
 use Rattle.model.specs.Result.{◌>>=◌, check, found, Ok}
@@ -88,7 +88,7 @@ module _ (policy : Policy) (code : List Instruction) (left : ℕ) (m : State) wh
             ap (map (eval start_env)) (in_a_row ∙ ap (variables_from 0) (sym words.register_count))
             ∙ row_values start_env 0 m.registers (λ i b. ap start_env (zero-add i) ∙ start_same i (omega (arith, words.register_count)))
 
-    pub start_ahead : (index : ℕ) → index + left ≡ length code → left ≤ 256 → Ahead policy code start_env left index 0 16 m
+    pub start_ahead : (index : ℕ) → index + left ≡ length code → left ≤ most_instructions → Ahead policy code start_env left index 0 16 m
     start_ahead index place room =
         record {
           place = place;

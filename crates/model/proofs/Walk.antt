@@ -13,6 +13,7 @@ use Rattle.model.specs.Annotation.{Annotation, annotation_at}
 use Rattle.model.specs.Atom.{Atom, Compares, holds, Holds}
 use Rattle.model.specs.Goals.{Path, term_of, address_term, goal_of, path_to, onward, assuming, assigning, loading, arrival, returning, Move, small_enough, assign, at_target, jump, branch, move, landing, tracing, walk, readable, writable, finish, goes, ends}
 use Rattle.model.specs.Machine.{State, word, address, assigned, stored, jumped, branched, permitted, execute, step, next}
+use Rattle.model.specs.Package.{most_instructions}
 use Rattle.model.specs.Policy.{Policy}
 use Rattle.model.specs.Property.{Permitted, Ready}
 use Rattle.model.specs.Result.{found}
@@ -56,7 +57,7 @@ module _ (policy : Policy) (routine : Routine) (formed : FormedRoutine routine)
     abbrev Lands : Path → Option Annotation → Type 0
     Lands t o = Sound policy (landing policy routine credit (λ t. walk policy routine credit left t) t o)
 
-    room : s.steps + 1 ≤ 256
+    room : s.steps + 1 ≤ most_instructions
     room = omega (arith, ahead.room)
 
     -- a path that has gone on stops at an annotation, or walks on

@@ -24,9 +24,9 @@ proof_start h = annotation_start h + h.section
 abbrev pub package_length : Header → ℕ
 package_length h = proof_start h + h.proof
 
--- "1 to 256", "0 to 64", "and at most 65,536"
+-- S-4: "Raise n to 512"; "0 to 64", "and at most 65,536"
 abbrev pub most_instructions : ℕ
-most_instructions = 256
+most_instructions = 512
 
 abbrev pub most_annotations : ℕ
 most_annotations = 64
@@ -35,7 +35,7 @@ abbrev pub most_bytes : ℕ
 most_bytes = 65536
 
 module _ (bytes : List ℕ) where
-  -- "instruction count n (2 bytes, 1 to 256), annotation count (2 bytes, 0 to 64), annotation section length (4), proof length (4)";
+  -- "instruction count n (2 bytes, 1 to [512]), annotation count (2 bytes, 0 to 64), annotation section length (4), proof length (4)";
   -- "7: header under 12 bytes (the length), else a count out of range, n first (its first byte),
   -- else length wrong (the length; 65,536 if longer)"
   unfoldable pub read_header : Result Header Refusal

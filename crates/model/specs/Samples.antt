@@ -264,3 +264,16 @@ difference_samples =
     ∷ sample (to_checker (of_two 0 (past_e (variable_e 1) 12) (past_e (variable_e 1) 8)) (by_rule 12)) 16 20 0
     ∷ sample (to_checker (of_two 0 (past_e (variable_e 1) 4294967292) (0x03 ∷ past_e (variable_e 1) 8 ++ constant_e 12)) (by_rule 12)) 0 0 2
     ∷ []
+
+-- a header that says n instructions, and nothing after it
+abbrev pub header_only : (n : ℕ) → List ℕ
+header_only n = half n ++ replicate 10 0x00
+
+-- S-4: 257 and 512 instructions are in range, and too many for these twelve bytes; 513 and 0 are out of range
+abbrev pub length_samples : List Sample
+length_samples =
+    sample (to_checker (policy_s 1) (header_only 257)) 7 12 0
+    ∷ sample (to_checker (policy_s 1) (header_only 512)) 7 12 0
+    ∷ sample (to_checker (policy_s 1) (header_only 513)) 7 0 0
+    ∷ sample (to_checker (policy_s 1) (header_only 0)) 7 0 0
+    ∷ []

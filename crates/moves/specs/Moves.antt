@@ -12,10 +12,10 @@ use Rattle.model.specs.declared.Verdict.{Verdict}
 use Rattle.model.specs.declared.Refusal.{Refusal}
 use Rattle.model.specs.declared.Refusal.TheVariants.{LargeTerm}
 use Rattle.workspace.specs.Layout.{most_assumptions, most_table_nodes, Same, most_variables}
+use Rattle.workspace.specs.Room.{instruction_nodes, goal_room}
 use Rattle.nodes.specs.Table.{term_at, place}
 use Rattle.goals.specs.Judging.{Reached}
 use Rattle.paths.specs.Walking.{path_of, raised_to, NodeIn, PathIn, stepped_to, written_to, Kept}
-use Rattle.goals.specs.Room.{goal_room}
 use Rattle.paths.specs.declared.Path.{Path}
 use Rattle.refusals.specs.declared.Refused.{Refused}
 use Rattle.goals.specs.declared.Progress.{Progress}
@@ -27,7 +27,7 @@ use Rattle.moves.specs.declared.Moved.TheVariants.{On, Ended}
 pub record RoomFor (ws : List ℕ) (path : Path) (left : ℕ) : Type 0 where
   pub words : least_workspace ≤ length ws
   pub path_in : PathIn ws path
-  pub nodes : path.top + 3 * left + goal_room ≤ most_table_nodes
+  pub nodes : path.top + instruction_nodes * left + goal_room ≤ most_table_nodes
   pub assumed : path.assumptions + left ≤ most_assumptions
   pub loaded : path.variables + left ≤ most_variables
   pub run : path.steps + left ≤ most_instructions
@@ -47,7 +47,7 @@ pub record Advanced (us : List ℕ) (path after : Path) : Type 0 where
   pub counter : after.counter ≡ path.counter + 1
   pub steps : after.steps ≡ path.steps + 1
   pub above : path.top ≤ after.top
-  pub nodes : after.top ≤ path.top + 3
+  pub nodes : after.top ≤ path.top + instruction_nodes
   pub more : path.variables ≤ after.variables
   pub variables : after.variables ≤ path.variables + 1
   pub assumptions : after.assumptions ≤ path.assumptions + 1

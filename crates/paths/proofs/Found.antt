@@ -10,6 +10,7 @@ use Rattle.model.specs.Result.{Result, Err, Ok, map_ok}
 use Rattle.model.specs.Term.{Term, substitute}
 use Rattle.model.specs.Atom.{Atom, substitute_atom}
 use Rattle.model.specs.Expression.{register_count, expression_at, atom_at, most_nodes}
+use Rattle.workspace.specs.Room.{atom_nodes}
 use Rattle.nodes.specs.Atoms.{atom_in}
 use Rattle.nodes.specs.Table.{term_at}
 use Rattle.leaf_reader.specs.Leaves.{variable_term, Grown}
@@ -17,7 +18,7 @@ use Rattle.leaf_reader.specs.declared.Parsed.{Parsed}
 use Rattle.leaf_reader.specs.declared.sources.Source.{Source}
 use Rattle.term_reader.specs.Reader.{expression_over, expression_in}
 use Rattle.term_reader.proofs.Substitution.{expression_substituted}
-use Rattle.atom_reader.specs.AtomReader.{atom_over, atom_read, atom_nodes, AtomGrown}
+use Rattle.atom_reader.specs.AtomReader.{atom_over, atom_read, AtomGrown}
 use Rattle.atom_reader.specs.declared.AtomParsed.{AtomParsed}
 use Rattle.atom_reader.proofs.Substitution.{atom_substituted}
 use Rattle.paths.specs.declared.Path.{Path}

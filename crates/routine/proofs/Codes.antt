@@ -11,7 +11,7 @@ use Rattle.std.proofs.lemmas.List.Elements.{All-nil, All-push}
 use Rattle.model.specs.Result.{Result, Err, Ok, ◌>>=◌, check, map_err}
 use Rattle.model.specs.Word.{le32}
 use Rattle.model.specs.Instruction.{decode, target_inside}
-use Rattle.model.specs.Package.{most_instructions, immediate_start, instructions_from, read_code}
+use Rattle.model.specs.Package.{immediate_start, instructions_from, read_code}
 use Rattle.model.specs.declared.Header.{Header}
 use Rattle.model.specs.declared.Instruction.{Instruction}
 use Rattle.model.specs.declared.Refusal.{Refusal}
@@ -98,7 +98,7 @@ module _ (bytes : List ℕ) (h : Header) where
 
   -- ---- the code kept in lines: the first instructions stand there
   pub record Reading (lines : List Instruction) (index : ℕ) : Type 0 where
-    pub long : length lines ≡ most_instructions
+    pub room : h.instructions ≤ length lines
     pub rest : read_code bytes h ≡ (instructions_from bytes h (h.instructions - index) index >>= λ rest. Ok (take index lines ++ rest))
     pub formed : All (Formed h.instructions) (take index lines)
 
@@ -107,8 +107,8 @@ module _ (bytes : List ℕ) (h : Header) where
   value_again (Err e) = refl
   value_again (Ok a) = refl
 
-  pub read_start_lem : (lines : List Instruction) → length lines ≡ most_instructions → Reading lines 0
-  read_start_lem lines e = record { long = e; rest = all_left ∙ value_again _; formed = All-nil _ }
+  pub read_start_lem : (lines : List Instruction) → h.instructions ≤ length lines → Reading lines 0
+  read_start_lem lines r = record { room = r; rest = all_left ∙ value_again _; formed = All-nil _ }
 
   -- the instruction x goes after those read
   joined : (m : Result (List Instruction) Refusal) (before : List Instruction) (x : Instruction) → ((m >>= λ rest. Ok (x ∷ rest)) >>= λ rest. Ok (before ++ rest)) ≡ (m >>= λ rest. Ok ((before ++ (x ∷ [])) ++ rest))
@@ -117,12 +117,12 @@ module _ (bytes : List ℕ) (h : Header) where
   joined (Ok rest) before x = ap Ok (sym (append_assoc before (x ∷ []) rest))
 
   module _ (lines : List Instruction) (index : ℕ) (g : Reading lines index) (l : index < h.instructions) where
-    pub read_more : h.instructions ≤ most_instructions → (x : Instruction) → Ok x ≡ instruction_at bytes h index → Formed h.instructions x → Reading (set lines index x) (index + 1)
-    read_more few x e f =
+    pub read_more : (x : Instruction) → Ok x ≡ instruction_at bytes h index → Formed h.instructions x → Reading (set lines index x) (index + 1)
+    read_more x e f =
         let before = take index lines in
-        let t : take (index + 1) (set lines index x) ≡ before ++ (x ∷ []) = take_more_set lines index x (rw g.long (omega arith)) in
+        let t : take (index + 1) (set lines index x) ≡ before ++ (x ∷ []) = take_more_set lines index x (omega (arith, g.room)) in
         record {
-          long = length-set lines index x ∙ g.long;
+          room = rw (length-set lines index x) g.room;
           rest = rw t (g.rest ∙ ap (λ (m : Result (List Instruction) Refusal). m >>= λ rest. Ok (before ++ rest)) (one_more index x l e) ∙ joined _ before x);
           formed = rw t (All-push (Formed h.instructions) before x g.formed f);
         }

@@ -1,12 +1,11 @@
 // The instructions of a package: checks 8 and 9.
-ghost use Rattle.std.specs.Prelude.{◌≡◌, ◌<◌, IfOk, All, length};
+ghost use Rattle.std.specs.Prelude.{◌≡◌, ◌<◌, ◌≤◌, IfOk, All, length};
 ghost use Rattle.model.specs.Result.{map_ok};
 ghost use Rattle.model.specs.Package.{read_code};
 ghost use Rattle.decoding.specs.Decoding.{Formed};
 ghost use Rattle.routine.specs.Code.{instruction_at, code_checked};
 
 use header::package::Package;
-use limits::MOST_INSTRUCTIONS;
 use model::{Instruction, Refusal};
 
 // The instruction at an index, or what check 8 or 9 refuses there.
@@ -41,11 +40,12 @@ pub fn check_code(routine: &Package) -> Result<(), Refusal>
 pub const BLANK: Instruction = Instruction::Set { d: 0, i: 0 };
 
 // The instructions of a package, which then stand at the start of the lines, or what check 8 or 9 refuses. Each is formed for a code of their
-// number.
+// number. There are lines enough.
 pub fn read_code<'a>(
     routine: &Package,
-    lines: &'a mut [Instruction; MOST_INSTRUCTIONS],
+    lines: &'a mut [Instruction],
 ) -> Result<&'a [Instruction], Refusal>
+    requires { routine.now.header.instructions ≤ length lines.old }
     ensures is { map_ok (λ code. code.now) result ≡ read_code routine.now.bytes.now routine.now.header }
     ensures formed { IfOk result (λ code. All (Formed (length code.now)) code.now) }
 {

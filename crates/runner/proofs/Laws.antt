@@ -7,7 +7,7 @@ use lib.ListN.{length}
 use lib.Dec.{eqb}
 use borrow.Author.Tests.{eqb-true}
 use Rattle.std.specs.List.{All}
-use Rattle.model.specs.Result.{Err, Ok, ◌>>=◌, check}
+use Rattle.model.specs.Result.{Result, Err, Ok, ◌>>=◌, check}
 use Rattle.model.specs.Policy as model
 use Rattle.model.specs.Expression.{register_count}
 use Rattle.model.specs.Runner.{read_start, run_of}
@@ -24,16 +24,16 @@ use Rattle.header.specs.Headers.{Fits}
 use Rattle.decoding.specs.Decoding.{Formed}
 use Rattle.routine.proofs.Facts.{code_length}
 use Rattle.runs.specs.Counted.{Counted, counted}
-use Rattle.runs.specs.Run.{Runnable, Ran}
-use Rattle.runner.specs.Checks.{refusal_outcome, Runs}
+use Rattle.runs.specs.Run.{Runnable}
+use Rattle.runner.specs.Checks.{refusal_outcome, outcome_of, CodeRuns, Runs}
+
+-- there are sixteen registers
+pub sixteen : (registers : List ℕ) (rest : Bool) → (eqb (length registers) register_count && rest) ≡ true → length registers ≡ register_count
+sixteen registers rest f = eqb-true (length registers) register_count ((and-eq-true_iff (eqb (length registers) register_count) rest).0 f).0
 
 -- the code that was read, and the sixteen registers, are what a run asks for
-pub runnable : {bytes : List ℕ} {header : Header} {code : List Instruction} (registers : List ℕ) (rest : Bool) → Fits bytes header → Ok code ≡ read_code bytes header → All (Formed (length code)) code → (eqb (length registers) register_count && rest) ≡ true → Runnable code registers
-runnable {bytes} {header} {code} registers rest fits read formed f = record {
-  short = rw (code_length bytes header (sym read)) fits.few;
-  sixteen = eqb-true (length registers) register_count ((and-eq-true_iff (eqb (length registers) register_count) rest).0 f).0;
-  formed = formed;
-}
+pub runnable : {bytes : List ℕ} {header : Header} {code : List Instruction} {registers : List ℕ} → Fits bytes header → Ok code ≡ read_code bytes header → All (Formed (length code)) code → length registers ≡ register_count → Runnable code registers
+runnable {bytes} {header} fits read formed long = record { short = rw (code_length bytes header (sym read)) fits.few; sixteen = long; formed = formed }
 
 module _ (policy_bytes bytes registers memory : List ℕ) (budget : ℕ) where
   abbrev Promised : Outcome → (registers memory : List ℕ) → Type 0
@@ -78,15 +78,12 @@ module _ (policy_bytes bytes registers memory : List ℕ) (budget : ℕ) where
       unfolding code_of ◌>>=◌
       header_refused x e = stops x (by_code ∙ rw (← e, code_of))
 
-      module _ (header : Header) (e : Ok header ≡ read_header bytes) where
-        pub code_refused : (x : Refusal) → Err x ≡ read_code bytes header → Promised (refusal_outcome x) registers memory
-        unfolding code_of ◌>>=◌
-        code_refused x r = stops x (by_code ∙ rw (← e, ← r, code_of))
-
-        pub runs : (code : List Instruction) → Ok code ≡ read_code bytes header → (r : Outcome) (registers' memory' : List ℕ)
-            → Ran code (listed p.regions) registers memory budget r registers' memory' → Promised r registers' memory'
-        unfolding code_of policy_of run_of ◌>>=◌
-        runs code r o registers' memory' ran =
-            let words : length memory ≡ p.memory = eqb-true (length memory) p.memory ((and-eq-true_iff (eqb (length registers) register_count) (eqb (length memory) p.memory)).0 f).1 in
-            let start : read_start policy_bytes bytes registers memory ≡ Ok (granted, code) = by_code ∙ rw (← e, ← r, code_of) in
-            promise o registers' memory' (ran.run granted (record { words = sym words; granted = refl }) ∙ rw (start, run_of))
+      -- the code runs, or check 8 or 9 refuses
+      pub code_runs : (header : Header) → Ok header ≡ read_header bytes → (r : Result Outcome Refusal) (registers' memory' : List ℕ)
+          → CodeRuns bytes header (listed p.regions) registers memory budget r registers' memory' → Promised (outcome_of r) registers' memory'
+      unfolding code_of policy_of run_of ◌>>=◌
+      code_runs header e (Err x) registers' memory' (r, same_registers, same_memory) = rw (same_registers, same_memory) (stops x (by_code ∙ rw (← e, r, code_of)))
+      code_runs header e (Ok o) registers' memory' (code, r, ran) =
+          let words : length memory ≡ p.memory = eqb-true (length memory) p.memory ((and-eq-true_iff (eqb (length registers) register_count) (eqb (length memory) p.memory)).0 f).1 in
+          let start : read_start policy_bytes bytes registers memory ≡ Ok (granted, code) = by_code ∙ rw (← e, r, code_of) in
+          promise o registers' memory' (ran.run granted (record { words = sym words; granted = refl }) ∙ rw (start, run_of))

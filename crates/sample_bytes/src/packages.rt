@@ -2,6 +2,7 @@
 ghost use Rattle.std.specs.Prelude.{◌≡◌, ◌≤◌, ◌<◌, length};
 ghost use Rattle.sample_bytes.specs.Buffer.{Same};
 
+use crate::longest;
 use crate::writing::Writer;
 
 // A package with no annotations: its code and its proof.
@@ -17,6 +18,8 @@ pub enum Package {
     Deep(u32),
     // a return, and a proof by rule 2, so often that the package is so many bytes long
     Padded(u32),
+    // 512 instructions on one path: so many loads, then branches, and at the end a return or one branch more
+    Longest { loads: u32, returns: bool },
 }
 
 // The header of a package with no annotations.
@@ -67,7 +70,7 @@ fn returning(writer: &mut Writer, proof: u32)
 }
 
 impl Package {
-    // The package's bytes, at the start of the buffer. Counts are taken modulo 1000.
+    // The package's bytes, at the start of the buffer. Counts are taken modulo 1000, loads modulo 512.
     pub fn write(self, out: &mut [u8]) -> &[u8]
         ensures few { length result.now ≤ length out.old }
         ensures place { result.ref_ptr ≡ out.entry.ref_ptr }
@@ -82,6 +85,9 @@ impl Package {
                 writer.byte(10);
                 writer.repeat(4, count % 1000);
                 writer.byte(1);
+            }
+            Package::Longest { loads, returns } => {
+                longest::longest(&mut writer, loads % 512, returns);
             }
             Package::Padded(size) => {
                 if 20 <= size {

@@ -2,9 +2,10 @@
 ghost use Rattle.std.specs.Prelude.{◌≡◌, ◌≤◌, length};
 ghost use Rattle.sample_bytes.specs.Buffer.{Same};
 
+use crate::longest;
 use crate::writing::Writer;
 
-// A policy with one region and no atom, or one that assumes an equality.
+// A policy with one region: it assumes nothing, an equality, or what never holds.
 #[derive(Clone, Copy)]
 pub enum Policy {
     // a region to read and write, of so many words from a base on
@@ -18,6 +19,8 @@ pub enum Policy {
     Sums(u32),
     // c >> count = c, where c is 0
     Shift(u8),
+    // sixteen times 0 < 0, which never holds
+    Impossible,
 }
 
 // The sizes of a policy with one region, and with so many atoms before.
@@ -80,6 +83,12 @@ impl Policy {
                 assuming_equal(&mut writer);
                 writer.repeat(2, sums);
                 writer.repeat(0, 5 * (sums % 100) + 10);
+            }
+            Policy::Impossible => {
+                sizes(&mut writer, 16, 1, 1);
+                writer.word(0);
+                writer.word(7);
+                longest::atoms(&mut writer);
             }
             Policy::Shift(count) => {
                 assuming_equal(&mut writer);

@@ -50,8 +50,17 @@ impl<'a> Writer<'a> {
     pub(crate) fn repeat(&mut self, x: u8, times: u32)
         ensures { Same self.old.out self.new.out }
     {
+        self.all(&[x], times);
+    }
+
+    // The same bytes so many times.
+    pub(crate) fn all(&mut self, bytes: &[u8], times: u32)
+        ensures { Same self.old.out self.new.out }
+    {
         for _ in 0..times {
-            self.byte(x);
+            for &byte in bytes {
+                self.byte(byte);
+            }
         }
     }
 

@@ -16,6 +16,7 @@ fn main(rt: HostRuntime) -> io::Result<()> {
         routine: &mut [0; BYTES],
     };
     edges::instruction_counts(&mut desk)?;
+    term_edges::longest_paths(&mut desk)?;
     policy_edges::memory_sizes(&mut desk)?;
     policy_edges::region_past_memory(&mut desk)?;
     term_edges::depths(&mut desk)?;

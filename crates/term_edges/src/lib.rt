@@ -1,4 +1,4 @@
-// Samples at the limits of derivations, register terms and shifts, each judged and printed as in `edges`.
+// Samples at the limits of paths, derivations, register terms and shifts, each judged and printed as in `edges`.
 #![tactic(auto)]
 
 use edges::Desk;
@@ -9,6 +9,23 @@ use std::io;
 // So many doublings, then a shift by so much.
 fn shifted(doublings: u32, by: u32) -> Package {
     Package::Shifted { doublings, by }
+}
+
+// Paths of 512 instructions: loads, branches and a return; 512 branches, with 528 assumptions at the last, after which the code ends; and 511 loads,
+// with 527 variables at the return.
+pub fn longest_paths<R: Print>(desk: &mut Desk<R>) -> io::Result<()> {
+    for (name, loads, returns) in [
+        ("256 loads, 255 branches", 256, true),
+        ("512 branches", 0, false),
+        ("511 loads", 511, true),
+    ] {
+        desk.show(
+            name,
+            Policy::Impossible,
+            Package::Longest { loads, returns },
+        )?;
+    }
+    Ok(())
 }
 
 // Derivations 32 and 33 levels deep.

@@ -6,7 +6,9 @@ use mathlib.Core.List.{List}
 use Prim.Native.Nat.{ℕ, zero, suc, ◌%◌, ◌^◌, ◌<◌}
 use native.Mathlib.Omega.{arith}
 use lib.Dec.{eqb}
+use lib.ListN.{get_or, replicate}
 use borrow.Author.Tests.{eq-eqb, eqb-true, ne_eqb}
+use Rattle.std.specs.Prelude.{Option, None}
 use Rattle.model.specs.Word.{shift_w}
 use Rattle.model.specs.Term.{Term, eval, eq_term}
 use Rattle.model.proofs.Terms.{same_term, term_same as same-refl-term}
@@ -17,6 +19,7 @@ use Rattle.nodes.specs.declared.Operation.TheVariants.{Sum, Difference, Mask}
 use Rattle.nodes.specs.Table.{low, high, parts_at, value_at, marks_at, node_of_tag, view_of, build, operation_of, term_at, pair_value, facts_of, InOrder, Shaped, Formed}
 use Rattle.nodes.proofs.Table.{marks_here, node_order, node_built, same_terms}
 use Rattle.nodes.proofs.Facts.{pair_eval}
+use Rattle.term_walks.specs.Reckoned.{Right}
 
 -- ---- the value of a term by those of its parts
 module _ {ws : List ℕ} {i : ℕ} (f : Formed ws (suc i)) where
@@ -34,6 +37,15 @@ module _ {ws : List ℕ} {i : ℕ} (f : Formed ws (suc i)) where
   pub reduced_shift : {count part a x : ℕ} → Shift count part ≡ view_of ws i → a ≡ eval (λ v. 0) (term_at ws part) → x ≡ shift_w count a → x ≡ eval (λ v. 0) (term_at ws i)
   unfolding eval
   reduced_shift e p d = d ∙ rw (p, node_built f.shaped e)
+
+-- ---- what an evaluation keeps: at first nothing
+pub nothing_kept : (ws : List ℕ) (places : ℕ) → Right ws (replicate places None)
+nothing_kept ws places = record { is = λ node. rw (none places node) tt }
+  where
+    none : (n k : ℕ) → ◌≡◌ {A = Option ℕ} (get_or (replicate n None) k None) None
+    none zero k = refl
+    none (suc n) zero = refl
+    none (suc n) (suc k) = none n k
 
 -- ---- the same term
 -- the same node stands for both

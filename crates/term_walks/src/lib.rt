@@ -1,10 +1,11 @@
 // Walks along a term in the table: whether two nodes have the same term, and the value of a term without variables.
 #![tactic(auto)]
 
-ghost use Rattle.std.specs.Prelude.{◌≡◌, suc};
+ghost use Rattle.std.specs.Prelude.{◌≡◌, suc, IfSome};
 ghost use Rattle.model.specs.Term.{eval, eq_term};
 ghost use Rattle.nodes.specs.Table.{term_at, Shaped, Formed};
 ghost use Rattle.term_walks.specs.Closed.{closed_value};
+ghost use Rattle.term_walks.specs.Reckoned.{Right};
 
 use nodes::Node;
 
@@ -33,21 +34,79 @@ pub fn equal(ws: &[u32], i: usize, j: usize) -> bool
     }
 }
 
-// The value of node i's term, every variable being 0: at once where it is kept.
-fn reduced(ws: &[u32], i: usize) -> u32
+// The value of node i's term, if it stands in the table.
+fn held(ws: &[u32], i: usize) -> Option<u32>
     requires { Formed ws.now (suc i) }
-    ensures { result ≡ eval (λ v. 0) (term_at ws.now i) }
+    ensures { IfSome result (λ x. x ≡ eval (λ v. 0) (term_at ws.now i)) }
 {
     if nodes::holds_value(ws, i) {
-        return nodes::value(ws, i);
+        Some(nodes::value(ws, i))
+    } else {
+        None
     }
+}
+
+// The value of node i's term, every variable being 0, by those of its parts.
+#[cycle(reduced)]
+fn combined(ws: &[u32], i: usize, kept: &mut [Option<u32>]) -> u32
+    requires formed { Formed ws.now (suc i) }
+    requires kept { Right ws.now kept.old }
+    ensures is { result ≡ eval (λ v. 0) (term_at ws.now i) }
+    ensures kept { Right ws.now kept.new }
+{
     match nodes::view(ws, i) {
         Node::Constant(value) => value,
         Node::Variable(_) => 0,
         Node::Pair(operation, left, right) => {
-            terms::applied(operation, reduced(ws, left), reduced(ws, right))
+            let first = reduced(ws, left, kept);
+            terms::applied(operation, first, reduced(ws, right, kept))
         }
-        Node::Shift(count, part) => fields::shift(reduced(ws, part), count),
+        Node::Shift(count, part) => fields::shift(reduced(ws, part, kept), count),
+    }
+}
+
+// The same, at once where it stands in the table or is kept. Values are kept of the first nodes, as many as there are places.
+#[cycle(reduced)]
+fn reduced(ws: &[u32], i: usize, kept: &mut [Option<u32>]) -> u32
+    requires formed { Formed ws.now (suc i) }
+    requires kept { Right ws.now kept.old }
+    ensures is { result ≡ eval (λ v. 0) (term_at ws.now i) }
+    ensures kept { Right ws.now kept.new }
+{
+    if let Some(value) = held(ws, i) {
+        return value;
+    }
+    if let Some(&Some(value)) = kept.get(i) {
+        return value;
+    }
+    let value = combined(ws, i, kept);
+    if i < kept.len() {
+        kept[i] = Some(value);
+    }
+    value
+}
+
+// A place for each node of the table.
+const PLACES: usize = 4096;
+
+// The value of a large term, every variable being 0: no node is walked twice. The places are not to lie on the stack of a caller that calls itself.
+#[inline(never)]
+fn large(ws: &[u32], i: usize) -> u32
+    requires { Formed ws.now (suc i) }
+    ensures { result ≡ eval (λ v. 0) (term_at ws.now i) }
+{
+    reduced(ws, i, &mut [None; PLACES])
+}
+
+// The value of node i's term, every variable being 0. A small term is walked as a tree.
+fn value(ws: &[u32], i: usize) -> u32
+    requires { Formed ws.now (suc i) }
+    ensures { result ≡ eval (λ v. 0) (term_at ws.now i) }
+{
+    if nodes::small(ws, i) {
+        reduced(ws, i, &mut [])
+    } else {
+        large(ws, i)
     }
 }
 
@@ -56,9 +115,8 @@ pub fn evaluate(ws: &[u32], i: usize) -> Option<u32>
     requires { Formed ws.now (suc i) }
     ensures { result ≡ closed_value (term_at ws.now i) }
 {
-    if nodes::closed(ws, i) {
-        Some(reduced(ws, i))
-    } else {
-        None
+    if !nodes::closed(ws, i) {
+        return None;
     }
+    held(ws, i).or_else(|| Some(value(ws, i)))
 }

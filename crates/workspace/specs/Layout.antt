@@ -2,11 +2,12 @@
 use Rattle.std.specs.Prelude.{◌≡◌, List, ℕ, ◌+◌, ◌-◌, ◌/◌, ◌<◌, ◌≤◌, get_or, set}
 use Rattle.model.specs.Atom.{most_atoms}
 use Rattle.model.specs.Expression.{register_count}
+use Rattle.model.specs.Package.{most_instructions}
 use Rattle.model.specs.Verdict.{least_workspace}
 
--- there is room for paths of so many instructions
+-- there is room for paths of so many instructions, which is as many as a path may have (Room)
 abbrev pub path_room : ℕ
-path_room = 512
+path_room = most_instructions
 
 -- from word 0: a coefficient for each variable on a path, the registers and one a load; the numbers of variables are below this
 abbrev pub most_variables : ℕ

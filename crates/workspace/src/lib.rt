@@ -4,10 +4,10 @@
 
 ghost use Rattle.std.specs.Prelude.{◌≡◌, length, replicate};
 
-use limits::{LEAST_WORKSPACE, MOST_ATOMS, REGISTERS};
+use limits::{LEAST_WORKSPACE, MOST_ATOMS, MOST_INSTRUCTIONS, REGISTERS};
 
 // path_room: there is room for paths of so many instructions.
-const PATH_ROOM: usize = 512;
+const PATH_ROOM: usize = MOST_INSTRUCTIONS;
 
 // most_variables: the numbers of variables are below this.
 pub const MOST_VARIABLES: usize = REGISTERS + PATH_ROOM;

@@ -63,7 +63,7 @@ fn checks() -> Vec<Check> {
     };
     let policy = plain_policy(1, 1).encode();
     add("accepted: a return", &policy, &package(&[Instruction::Return], 0, &[], &[2]));
-    for segments in [1, 2, 4, 8, 12, 16, 20, 24] {
+    for segments in [1, 2, 4, 8, 12, 16, 20, 24, 48] {
         if let Some(sample) = accepted(plain_sample, |_| true, segments) {
             let name = format!("accepted: random routine, segments: {segments}");
             add(&name, &sample.policy_bytes(), &sample.package_bytes());
@@ -212,10 +212,12 @@ fn runs() -> Vec<Run> {
         });
     };
     let small = plain_policy(64, 1);
-    add("a return", &small, &[Instruction::Return], 0);
-    let mut straight = vec![Instruction::AddConstant { d: 2, a: 2, i: 3 }; 255];
-    straight.push(Instruction::Return);
-    add("straight, 256 steps", &small, &straight, 0);
+    for steps in [1, 10, 64, 65, 256, 512] {
+        let mut straight = vec![Instruction::AddConstant { d: 2, a: 2, i: 3 }; steps - 1];
+        straight.push(Instruction::Return);
+        let name = if steps == 1 { "a return".into() } else { format!("straight, {steps} steps") };
+        add(&name, &small, &straight, 0);
+    }
     // register 0 counts up to register 1
     let counting = |body: &[Instruction]| {
         let mut code = vec![Instruction::JumpIfEqual { a: 0, b: 1, target: 0 }];

@@ -7,7 +7,7 @@ use crate::damage::{damaged_package, damaged_policy, every_change, every_repaire
 use crate::hostile::hostile_cases;
 use crate::random::Random;
 use crate::regions::table_case;
-use crate::routine::sample;
+use crate::routine::{long_sample, sample};
 use crate::shapes::shape_case;
 use crate::term::{Comparison, Term};
 use crate::worst::worst_cases;
@@ -74,7 +74,8 @@ impl Cases {
             5 | 6 => 4 + random.below(8),
             _ => 12 + random.below(12),
         };
-        let sample = sample(random, segments);
+        let sample =
+            if number.is_multiple_of(8) { long_sample(random) } else { sample(random, segments) };
         let (policy, bytes) = (sample.policy_bytes(), sample.package_bytes());
         let name = |what: &str| format!("sample {number}, {what}");
         self.queue.push_back((name("whole"), policy.clone(), bytes.clone()));

@@ -142,7 +142,7 @@ fn storing(words: &[u32], region: u8) -> Vec<u8> {
 
 fn packages(cases: &mut Vec<Named>) {
     let policy = policy().encode();
-    for count in [0, 1, 255, 256, 257, 65_535] {
+    for count in [0, 1, 255, 256, 257, 511, 512, 513, 65_535] {
         let code = vec![Instruction::Return; count];
         let bytes = package(&code, 0, &[], &[3]);
         cases.push((format!("{count} instructions"), policy.clone(), bytes));
@@ -180,7 +180,7 @@ fn packages(cases: &mut Vec<Named>) {
         }
     }
     // a load of every word of the memory, and one more
-    for count in [254usize, 255] {
+    for count in [254usize, 255, 510, 511] {
         let mut code = vec![Instruction::Constant { d: 1, i: 0 }];
         code.extend((1..count).map(|_| Instruction::Load { d: 2, a: 1, i: 3 }));
         code.push(Instruction::Return);

@@ -16,7 +16,7 @@ use crate::term::{balanced_sum, constant, difference, mask, shift, sum, variable
 use crate::term::{Atom, Comparison, Term};
 
 const REGISTERS: u8 = 16;
-const MAX_CODE: usize = 230;
+const MAX_CODE: usize = 480;
 const MAX_NOTES: usize = 60;
 const MAX_FACTS: usize = 24;
 
@@ -54,26 +54,43 @@ struct Kind {
     tables: bool,
     /// Words past a register that differ from each other.
     distances: bool,
+    /// Assignments before each segment.
+    stretch: usize,
 }
 
 /// A random sample of about so many segments.
 pub fn sample(random: &mut Random, segments: usize) -> Sample {
-    sample_with(random, segments, Kind { fields: true, tables: true, distances: true })
+    sample_with(random, segments, Kind { fields: true, tables: true, distances: true, stretch: 0 })
 }
 
 /// A random sample of about so many segments, with masks and shifts and with tables.
 pub fn table_sample(random: &mut Random, segments: usize) -> Sample {
-    sample_with(random, segments, Kind { fields: true, tables: true, distances: false })
+    sample_with(random, segments, Kind { fields: true, tables: true, distances: false, stretch: 0 })
 }
 
 /// A random sample of about so many segments, with masks and shifts and with any regions.
 pub fn field_sample(random: &mut Random, segments: usize) -> Sample {
-    sample_with(random, segments, Kind { fields: true, tables: false, distances: false })
+    sample_with(
+        random,
+        segments,
+        Kind { fields: true, tables: false, distances: false, stretch: 0 },
+    )
 }
 
 /// A random sample of about so many segments, without masks and shifts and with any regions.
 pub fn plain_sample(random: &mut Random, segments: usize) -> Sample {
-    sample_with(random, segments, Kind { fields: false, tables: false, distances: false })
+    sample_with(
+        random,
+        segments,
+        Kind { fields: false, tables: false, distances: false, stretch: 0 },
+    )
+}
+
+/// A random sample of up to some hundreds of instructions, most of them assignments.
+pub fn long_sample(random: &mut Random) -> Sample {
+    let kind = Kind { fields: true, tables: true, distances: true, stretch: 12 };
+    let segments = 20 + random.below(20);
+    sample_with(random, segments, kind)
 }
 
 fn sample_with(random: &mut Random, segments: usize, kind: Kind) -> Sample {
@@ -638,6 +655,9 @@ impl<'a> Builder<'a> {
     fn segments(&mut self, count: usize, depth: u32) {
         for _ in 0..count {
             if self.has_room() {
+                for _ in 0..self.kind.stretch {
+                    self.arithmetic();
+                }
                 self.segment(depth);
             }
         }

@@ -37,6 +37,7 @@ const LEFT: u8 = 14;
 const RIGHT: u8 = 15;
 
 const MAX_PACKAGE: usize = 65_536;
+const MAX_INSTRUCTIONS: usize = 512;
 
 impl Frame {
     /// As many branches as fit.
@@ -51,7 +52,7 @@ impl Frame {
         let fixed = 12 + 8 * (self.setup.len() + 1) + section.len() + 8 + self.setup_proof.len();
         let edge = derived.len() + 2;
         let room = (MAX_PACKAGE - fixed - edge - 40) / (8 + edge);
-        let branches = room.min(256 - self.setup.len() - 1);
+        let branches = room.min(MAX_INSTRUCTIONS - self.setup.len() - 1);
 
         let end = self.setup.len() + branches;
         let mut code = self.setup.clone();
@@ -172,6 +173,9 @@ pub fn worst_cases() -> Vec<Worst> {
         same_terms_again_and_again(),
         assumptions(),
         hundreds_of_assumptions(),
+        longest_path("0: a path of loads and branches", 256, Instruction::Return, 0),
+        longest_path("0: a path of 512 branches", 0, back_to_start(), 13),
+        longest_path("0: a path of 511 loads", 511, Instruction::Return, 0),
         parts(),
         sums_and_differences(),
         growing_terms(),
@@ -337,6 +341,39 @@ fn hundreds_of_assumptions() -> Worst {
     with_assumption_branches(frame, "0: hundreds of assumptions")
 }
 
+/// A branch to the first instruction, on what always holds.
+fn back_to_start() -> Instruction {
+    Instruction::JumpIfEqual { a: 0, b: 0, target: 0 }
+}
+
+/// One path of 512 instructions: so many loads, then branches to its start, then the last. Its
+/// start has sixteen atoms that never hold, from which any goal is derived; on the edge of each
+/// branch one goal is derived by way of the path's last variable and last assumption.
+fn longest_path(name: &'static str, loads: u16, last: Instruction, number: u32) -> Worst {
+    let never = Atom::less(&constant(0), &constant(0));
+    let mut code = vec![Instruction::Load { d: 0, a: 0, i: 0 }; usize::from(loads)];
+    code.resize(MAX_INSTRUCTIONS - 1, back_to_start());
+    code.push(last);
+    let branches = MAX_INSTRUCTIONS as u16 - loads - u16::from(number == 0);
+
+    let by_assumption = |index: u16| [&[0], &index.to_le_bytes()[..]].concat();
+    let variable = if loads == 0 { 0 } else { 15 + loads };
+    let argument = [&[1], &variable.to_le_bytes()[..]].concat();
+    let any = [&[24, 0, 0, 0, 0, 0][..], &by_assumption(0)].concat();
+    let atoms = by_assumption(0).repeat(16);
+    let mut proof = [&atoms[..], &any, &any, &any.repeat(usize::from(loads))].concat();
+    for branch in 0..branches {
+        let by_last =
+            [&[24][..], &argument, &[7], &argument, &any, &[10], &by_assumption(16 + branch)];
+        proof.extend([&atoms[..], &any, &by_last.concat()].concat());
+    }
+    proof.extend([&[24][..], &argument, &any].concat());
+    let policy = Policy { precondition: vec![never.clone(); 16], ..frame_policy() };
+    let annotations = vec![Annotation { index: 0, credit: constant(0), atoms: vec![never; 16] }];
+    let package = Routine { code, annotations }.encode(&proof);
+    Worst { name, policy: policy.encode(), package, number }
+}
+
 /// Rule 11 down to every leaf of two sums of 4,095 nodes.
 fn parts() -> Worst {
     let setup = [doubled(1), doubled(2)].concat();
@@ -391,7 +428,7 @@ fn growing_terms() -> Worst {
 fn accesses() -> Worst {
     let mut code = vec![Instruction::Constant { d: 1, i: 0 }];
     let mut proof = Vec::new();
-    for index in 0..254u32 {
+    for index in 0..314u32 {
         let (rule, instruction) = if index % 2 == 0 {
             (22, Instruction::Load { d: 2, a: 1, i: index % 64 })
         } else {
@@ -426,10 +463,10 @@ fn stores(name: &'static str, regions: Vec<Region>, named: [u8; 2], number: u32)
         Atom::at_most(&constant(base), &address),
         Atom::less(&address, &constant(base + length)),
     ];
-    let mut code = vec![Instruction::Store { d: 2, a: 0, i }; 255];
+    let mut code = vec![Instruction::Store { d: 2, a: 0, i }; MAX_INSTRUCTIONS - 1];
     code.push(Instruction::Return);
     let by_region = |region| [23, region, 0, 0, 0, 0, 1, 0];
-    let mut proof = by_region(named[0]).repeat(254);
+    let mut proof = by_region(named[0]).repeat(MAX_INSTRUCTIONS - 2);
     proof.extend(by_region(named[1]));
     proof.push(3);
     let policy =
@@ -556,8 +593,8 @@ fn annotations_of_shifts() -> Worst {
     Worst { name: "1: annotations of 30 shifts", policy, package, number: 0 }
 }
 
-/// Rule 3 on a < b, six times in each derivation: a < b from a ≤ b and a ≠ b, a ≤ b from a < b,
-/// and so on.
+/// Rule 3 on a < b, three or four times in each derivation: a < b from a ≤ b and a ≠ b, a ≤ b from
+/// a < b, and so on. With more, fewer branches would fit.
 fn evaluated_again_and_again(
     setup: Vec<Instruction>,
     a: Option<Rc<Term>>,
@@ -565,8 +602,11 @@ fn evaluated_again_and_again(
     name: &'static str,
 ) -> Worst {
     let atom = Atom::less(&a.expect("at least one"), b);
-    let derivation = [&[19][..], &[9, 19].repeat(4), &[3; 6]].concat();
-    Frame { setup, ..Frame::default() }.atoms(16, &atom, &derivation).build(name, 0)
+    let derivation = |more: usize| [&[19][..], &[9, 19].repeat(more), &vec![3; 2 + more]].concat();
+    Frame { setup, ..Frame::default() }
+        .atoms(8, &atom, &derivation(1))
+        .atoms(8, &atom, &derivation(2))
+        .build(name, 0)
 }
 
 /// Rule 3 on sums of shifts: 4,095 nodes, nearly all of which are or hold a shift.
@@ -594,18 +634,20 @@ fn closed_masks() -> Worst {
 /// Where [`sums_of_masked_terms`] puts a term before it is added.
 const TERM: u8 = 15;
 
-/// The code that sets ten registers to sums of masked terms: 54 terms in the first five, the same
-/// in the other five, the last first. `masked` sets a register to the term of a number, for the
-/// first time or again.
-fn sums_of_masked_terms(masked: impl Fn(u8, u32, bool) -> Instruction) -> Vec<Instruction> {
-    const PAIRS: u32 = 54;
-    const EACH: u32 = 11;
+/// The code that sets ten registers to sums of masked terms: so many terms in the first five, the
+/// same in the other five, the last first. `masked` sets a register to the term of a number, for
+/// the first time or again.
+fn sums_of_masked_terms(
+    terms: u32,
+    masked: impl Fn(u8, u32, bool) -> Instruction,
+) -> Vec<Instruction> {
+    let each = terms.div_ceil(5);
     let mut code = Vec::new();
-    for place in 0..2 * PAIRS {
-        let (again, at) = (place >= PAIRS, place % PAIRS);
-        let number = if again { PAIRS - 1 - at } else { at };
-        let total = (at / EACH) as u8 + if again { 5 } else { 0 };
-        if at % EACH == 0 {
+    for place in 0..2 * terms {
+        let (again, at) = (place >= terms, place % terms);
+        let number = if again { terms - 1 - at } else { at };
+        let total = (at / each) as u8 + if again { 5 } else { 0 };
+        if at % each == 0 {
             code.push(masked(total, number, again));
         } else {
             code.push(masked(TERM, number, again));
@@ -638,18 +680,19 @@ fn masked_terms_at_two_nodes() -> Worst {
         setup.push(Instruction::Shift { d, a: d, i: 1 });
         setup.resize(setup.len() + 2, Instruction::Add { d, a: d, b: d });
     }
-    setup.extend(sums_of_masked_terms(|d, number, again| {
+    setup.extend(sums_of_masked_terms(54, |d, number, again| {
         let copy = (number + u32::from(again)) % 5;
         Instruction::Mask { d, a: FIRST_COPY + copy as u8, i: number }
     }));
     cancelled_sums(setup, "12: masked terms at two nodes each")
 }
 
-/// Rule 12 on 54 masks of register 10 with constants that take each other's hint, each at two nodes.
+/// Rule 12 on 112 masks of register 10 with constants that take each other's hint, each at two nodes.
 fn masked_terms_of_three_nodes() -> Worst {
+    const TERMS: u32 = 112;
     let constants: Vec<u32> =
-        (0..).filter(|&constant| hint(constant) == hint(0)).take(54).collect();
-    let setup = sums_of_masked_terms(|d, number, _| Instruction::Mask {
+        (0..).filter(|&constant| hint(constant) == hint(0)).take(TERMS as usize).collect();
+    let setup = sums_of_masked_terms(TERMS, |d, number, _| Instruction::Mask {
         d,
         a: 10,
         i: constants[number as usize],

@@ -7,7 +7,7 @@ use crate::Refusal;
 
 const HEADER: usize = 12;
 const MAX_LENGTH: usize = 65_536;
-const MAX_INSTRUCTIONS: usize = 256;
+const MAX_INSTRUCTIONS: usize = 512;
 const MAX_ANNOTATIONS: usize = 64;
 const MAX_ATOMS: u8 = 16;
 const LAST_REGISTER: u8 = 15;

@@ -77,7 +77,7 @@ fn jump_to_itself() {
 #[test]
 fn instruction_counts() {
     assert_eq!(check(&policy(1, 1), &package(&[], &[], &[])), [7, 0, 0]);
-    let mut code = vec![RETURN; 256];
+    let mut code = vec![RETURN; 512];
     assert_eq!(check(&policy(1, 1), &package(&code, &[], &[2])), [0, 0, 1]);
     code.push(RETURN);
     assert_eq!(check(&policy(1, 1), &package(&code, &[], &[2])), [7, 0, 0]);

@@ -11,11 +11,8 @@ returns-then-not-registers-memory c = laws.wrong_start _ _ _ _ _ _ c.in_ok-grant
 pub returns-in_err-routine : goal.returns-in_err-routine
 returns-in_err-routine c = rw (stopped _ _ c.from_residual-in_err-routine.ensures.1) (laws.header_refused _ _ _ _ _ _ c.in_ok-granted.ensures.read c.if-not-registers-memory.false _ c.in_err-routine.ensures.is)
 
-pub returns-in_err-code : goal.returns-in_err-code
-returns-in_err-code c = rw (stopped _ _ c.from_residual-in_err-code.ensures.1) (laws.code_refused _ _ _ _ _ _ c.in_ok-granted.ensures.read c.if-not-registers-memory.false _ c.in_ok-routine.ensures.is _ (rw c.in_ok-routine.ensures.whole at c.in_err-code.ensures.is))
-
-pub run_code-requires : goal.run_code-requires
-run_code-requires c = laws.runnable _ _ c.in_ok-routine.routine.fits c.in_ok-code.ensures.is c.in_ok-code.ensures.formed c.if-not-registers-memory.false
+pub run_routine-requires : goal.run_routine-requires
+run_routine-requires c = laws.sixteen _ _ c.if-not-registers-memory.false
 
 pub returns : goal.returns
-returns c = laws.runs _ _ _ _ _ _ c.in_ok-granted.ensures.read c.if-not-registers-memory.false _ c.in_ok-routine.ensures.is _ (rw c.in_ok-routine.ensures.whole at c.in_ok-code.ensures.is) _ _ _ (rw c.as_slice-regions.ensures.same at c.run_code.ensures)
+returns c = laws.code_runs _ _ _ _ _ _ c.in_ok-granted.ensures.read c.if-not-registers-memory.false _ c.in_ok-routine.ensures.is _ _ _ (rw (c.in_ok-routine.ensures.whole, c.as_slice-regions.ensures.same) at c.run_routine.ensures)

@@ -1,0 +1,5 @@
+use Rattle.former.proofs.Instructions.{longer_routines}
+use Rattle.host_interface.proofs.pcc_run.Goals as goal
+
+pub returns-clause-longer : goal.returns-clause-longer
+returns-clause-longer c = longer_routines _
