@@ -341,3 +341,53 @@ APART = [unequal(past(var(1), 12), past(var(1), 8))] * 2 + [unequal(past(var(2),
 write('past_a_base', policy(1, 1, [(0, 1, 1)], pre=[at_most(var(1), const(3))], post=APART),
       package([instruction(9)], [], BY_BOUNDS + UNEQUAL_CONSTANTS + UNEQUAL_CONSTANTS + REFLEXIVE), start(1, [0, 3, 4294967285] + [0] * 13, [0]),
       'verdict=0 place=0 goals=4', 'run=0 place=0 steps=1')
+
+# ---- a plain decision: the smaller of two words, in register 0 and in memory; both ways join at 3
+#
+#  0  r0 := r1 + 0
+#  1  jump to 3 if r1 < r2
+#  2  r0 := r2 + 0
+#  3  r3 := 0
+#  4  Mem[r3 + 0] := r0
+#  5  return                      postcondition: r0 <= r1, r0 <= r2
+#
+# Without an annotation at 3 the package has 93 bytes, 33 of them proof: what follows the join is derived twice, on the taken edge first.
+# With one, as it had to be before S-5, it has 120: 22 of annotation, 38 of proof.
+
+DECISION = [
+    instruction(2, d=0, a=1, i=0), instruction(7, a=1, b=2, i=3), instruction(2, d=0, a=2, i=0),
+    instruction(0, d=3, i=0), instruction(5, d=0, a=3, i=0), instruction(9),
+]
+SMALLER = [at_most(var(0), var(1)), at_most(var(0), var(2))]
+ITSELF = rule(10, LINEAR)
+# v1 + 0 <= v1 < v2 by the condition; v2 + 0 <= v2 <= v1 by its opposite, which has the same number
+FIRST_IS_SMALLER = rule(6, ITSELF, rule(9, assume(0)), m=var(1))
+SECOND_IS_SMALLER = rule(6, ITSELF, assume(0), m=var(2))
+
+TWICE = b''.join([
+    # the taken edge: the store; v1 + 0 <= v1, v1 + 0 <= v2; 5 <= 6
+    writes(0), ITSELF, FIRST_IS_SMALLER, EVALUATE,
+    # the other edge: the store; v2 + 0 <= v1, v2 + 0 <= v2; 6 <= 6
+    writes(0), SECOND_IS_SMALLER, ITSELF, REFLEXIVE,
+])
+DECISION_POLICY = policy(1, 6, [(0, 1, 3)], post=SMALLER)
+DECISION_PACKAGE = package(DECISION, [], TWICE)
+FIRST_SMALLER = start(6, [9, 48, 61] + [9] * 13, [0])
+SECOND_SMALLER = start(6, [9, 61, 48] + [9] * 13, [0])
+write('smaller_of_two', DECISION_POLICY, DECISION_PACKAGE, FIRST_SMALLER, 'verdict=0 place=0 goals=8', 'run=0 place=5 steps=5')
+write('smaller_of_two_other_way', DECISION_POLICY, DECISION_PACKAGE, SECOND_SMALLER, 'verdict=0 place=0 goals=8', 'run=0 place=5 steps=6')
+
+# ---- the same routine with the join annotated
+
+ONCE = b''.join([
+    # the taken edge arrives at 3: both atoms, 2 <= 6, 3 <= 6 - 2; the other edge: both atoms, 3 <= 6, 3 <= 6 - 3
+    ITSELF, FIRST_IS_SMALLER, EVALUATE, EVALUATE,
+    SECOND_IS_SMALLER, ITSELF, EVALUATE, EVALUATE,
+    # the block at 3: the store; both atoms; 3 <= 3
+    writes(0), assume(0), assume(1), REFLEXIVE,
+])
+JOIN = annotation(3, const(3), *SMALLER)
+ANNOTATED_PACKAGE = package(DECISION, [JOIN], ONCE)
+write('smaller_of_two_annotated', DECISION_POLICY, ANNOTATED_PACKAGE, SECOND_SMALLER, 'verdict=0 place=0 goals=12', 'run=0 place=5 steps=6')
+
+assert [len(DECISION_PACKAGE), len(TWICE), len(ANNOTATED_PACKAGE), len(JOIN), len(ONCE)] == [93, 33, 120, 22, 38]

@@ -23,7 +23,8 @@ extern "C" {
 
 /* Judges a package under a policy. answer: number (0 is accepted), place, goals
  * derived. A workspace of fewer than PCC_WORKSPACE_WORDS words is refused (1)
- * and left as it was; any other is left all zero. */
+ * and left as it was; any other is left all zero. The call takes up to 414 KB of
+ * stack, for a path of 512 branches; its thread should have 512 KB. */
 void pcc_check(uint32_t *workspace, size_t words,
                const uint8_t *policy, size_t policy_len,
                const uint8_t *package, size_t package_len,

@@ -56,14 +56,15 @@ module _ {ws us : List ℕ} {path : Path} {d : ℕ} (g : RoomFor ws path 1) (lon
         ∙ ap₂ (λ (s : ModelPath) (x : Term). onward (record { counter = s.counter; steps = s.steps; registers = (assigning s d x).registers; variables = s.variables + 1; assumptions = s.assumptions })) (path_equal kept g.path_in) u.is;
     advanced = record {
       path_in = path_stepped (path_written higher_in below (record { below = omega arith; bound = rw u.is (variable_bound_lem path.variables) })) (path.counter + 1) (omega (arith, g.run));
-      counter = refl;
       steps = refl;
       above = omega arith;
       nodes = omega arith;
       more = omega arith;
       variables = omega arith;
+      listed = omega arith;
       assumptions = omega arith;
     };
+    counter = refl;
     same = u.kept;
   }
 
@@ -93,17 +94,17 @@ module _ {ws us : List ℕ} {path raised : Path} {count node : ℕ} {t : Term} (
 
 -- ---- what follows it
 module _ {ws vs : List ℕ} {bytes : List ℕ} {regions : List Region} {path : Path} {claim : Claim} {p : Progress} where
-  pub access_stopped : (s : ModelPath) {x : Refused} → AddressJudged ws vs bytes regions path claim p (Err x) → Accesses ws vs bytes regions (goes (goal_of (path_of ws path) claim ∷ []) s) path p (Err x)
-  access_stopped s a = record { moves = λ credit. record { judged = λ policy routine h. move_stopped s (a.judges policy h); kept = a.kept; leads = tt } }
+  pub access_stopped : (s : ModelPath) {x : Refused} → AddressJudged ws vs bytes regions path claim p (Err x) → Accesses ws vs bytes regions (goes (goal_of (path_of ws path) claim ∷ []) (s ∷ [])) path p (Err x)
+  access_stopped s a = record { moves = λ credit. record { judged = λ policy routine h. move_stopped (s ∷ []) (a.judges policy h); kept = a.kept; leads = tt } }
 
   module _ {q : Progress} (a : AddressJudged ws vs bytes regions path claim p (Ok q)) where
-    access_goes : {xs : List ℕ} {after : Path} (s : ModelPath) → path_of xs after ≡ s → Kept vs xs path → Advanced xs path after
-        → Accesses ws xs bytes regions (goes (goal_of (path_of ws path) claim ∷ []) s) path p (Ok (On after q))
-    access_goes {xs} {after} s means k d = record {
+    access_goes : {xs : List ℕ} {after : Path} (s : ModelPath) → path_of xs after ≡ s → Kept vs xs path → Advanced xs path after → after.counter ≡ path.counter + 1
+        → Accesses ws xs bytes regions (goes (goal_of (path_of ws path) claim ∷ []) (s ∷ [])) path p (Ok (On after q))
+    access_goes {xs} {after} s means k d c = record {
       moves = λ credit. record {
-        judged = λ policy routine h. subst (λ (u : ModelPath). MoveJudged bytes policy routine credit xs (goes (goal_of (path_of ws path) claim ∷ []) u) p (Ok (On after q))) means (move_on (a.judges policy h));
+        judged = λ policy routine h. subst (λ (u : ModelPath). MoveJudged bytes policy routine credit xs (goes (goal_of (path_of ws path) claim ∷ []) (u ∷ [])) p (Ok (On after q))) means (move_on (a.judges policy h));
         kept = kept_then a.kept k;
-        leads = (d, a.reached);
+        leads = (d, c, a.reached);
       };
     }
 
@@ -112,20 +113,20 @@ module _ {ws vs : List ℕ} {bytes : List ℕ} {regions : List Region} {path : P
       same = path_equal a.kept g.path_in
 
       pub store_goes : {after : Path} → length vs ≡ length ws → after ≡ stepped_to path (path.counter + 1)
-          → Accesses ws vs bytes regions (goes (goal_of (path_of ws path) claim ∷ []) (onward (path_of ws path))) path p (Ok (On after q))
+          → Accesses ws vs bytes regions (goes (goal_of (path_of ws path) claim ∷ []) (onward (path_of ws path) ∷ [])) path p (Ok (On after q))
       store_goes long h =
-          subst (λ (x : Path). Accesses ws vs bytes regions (goes (goal_of (path_of ws path) claim ∷ []) (onward (path_of ws path))) path p (Ok (On x q))) (sym h)
+          subst (λ (x : Path). Accesses ws vs bytes regions (goes (goal_of (path_of ws path) claim ∷ []) (onward (path_of ws path) ∷ [])) path p (Ok (On x q))) (sym h)
           (access_goes (onward (path_of ws path)) (ap (λ (s : ModelPath). onward s) same) (kept_none path) (record {
             path_in = path_stepped (path_held a.kept g.path_in long) (path.counter + 1) (omega (arith, g.run));
-            counter = refl;
             steps = refl;
             above = omega arith;
             nodes = omega arith;
             more = omega arith;
             variables = omega arith;
+            listed = omega arith;
             assumptions = omega arith;
-          }))
+          }) refl)
 
-      pub load_goes : {xs : List ℕ} {d : ℕ} {after : Path} → Loads vs xs path d after → Accesses ws xs bytes regions (goes (goal_of (path_of ws path) claim ∷ []) (onward (loading (path_of ws path) d))) path p (Ok (On after q))
+      pub load_goes : {xs : List ℕ} {d : ℕ} {after : Path} → Loads vs xs path d after → Accesses ws xs bytes regions (goes (goal_of (path_of ws path) claim ∷ []) (onward (loading (path_of ws path) d) ∷ [])) path p (Ok (On after q))
       load_goes {d = d} l =
-          access_goes (onward (loading (path_of ws path) d)) (l.means ∙ ap (λ (s : ModelPath). onward (loading s d)) same) (kept_same path g.path_in.prepared.assumed.few l.same) l.advanced
+          access_goes (onward (loading (path_of ws path) d)) (l.means ∙ ap (λ (s : ModelPath). onward (loading s d)) same) (kept_same path g.path_in.prepared.assumed.few l.same) l.advanced l.counter

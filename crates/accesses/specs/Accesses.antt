@@ -1,5 +1,5 @@
 -- What a load or a store on a path owes. Assumes nothing.
-use Rattle.std.specs.Prelude.{◌≡◌, List, [], ◌∷◌, ℕ, IfOk}
+use Rattle.std.specs.Prelude.{◌≡◌, List, [], ◌∷◌, ℕ, ◌+◌, IfOk}
 use Rattle.model.specs.Result.{Result}
 use Rattle.model.specs.Term.{Term}
 use Rattle.model.specs.Policy.{Policy}
@@ -42,4 +42,5 @@ pub record Accesses (ws us : List ℕ) (bytes : List ℕ) (regions : List Region
 pub record Loads (ws us : List ℕ) (path : Path) (d : ℕ) (after : Path) : Type 0 where
   pub means : path_of us after ≡ onward (loading (path_of ws path) d)
   pub advanced : Advanced us path after
+  pub counter : after.counter ≡ path.counter + 1
   pub same : Same 0 (place path.top) ws us

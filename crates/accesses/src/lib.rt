@@ -76,7 +76,7 @@ pub fn load(
     requires registers { (d < register_count) × (a < register_count) }
     requires room_for { RoomFor ws.old path 1 }
     requires reached { Reached grounds.now.bytes.now progress }
-    ensures { Accesses ws.old ws.new grounds.now.bytes.now grounds.now.regions.now (goes (goal_of (path_of ws.old path) (readable (address_term (path_of ws.old path) a i)) ∷ []) (onward (loading (path_of ws.old path) d))) path progress result }
+    ensures { Accesses ws.old ws.new grounds.now.bytes.now grounds.now.regions.now (goes (goal_of (path_of ws.old path) (readable (address_term (path_of ws.old path) a i)) ∷ []) (onward (loading (path_of ws.old path) d) ∷ [])) path progress result }
 {
     let right = Right::Read;
     let after = address_goal(grounds, ws, path, right, a, i, progress)?;
@@ -95,7 +95,7 @@ pub fn store(
     requires register { a < register_count }
     requires room_for { RoomFor ws.old path 1 }
     requires reached { Reached grounds.now.bytes.now progress }
-    ensures { Accesses ws.old ws.new grounds.now.bytes.now grounds.now.regions.now (goes (goal_of (path_of ws.old path) (writable (address_term (path_of ws.old path) a i)) ∷ []) (onward (path_of ws.old path))) path progress result }
+    ensures { Accesses ws.old ws.new grounds.now.bytes.now grounds.now.regions.now (goes (goal_of (path_of ws.old path) (writable (address_term (path_of ws.old path) a i)) ∷ []) (onward (path_of ws.old path) ∷ [])) path progress result }
 {
     let right = Right::Write;
     let after = address_goal(grounds, ws, path, right, a, i, progress)?;

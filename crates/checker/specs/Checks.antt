@@ -4,7 +4,7 @@ use Rattle.model.specs.Result.{Result, Ok, ◌>>=◌}
 use Rattle.model.specs.Policy.{Policy}
 use Rattle.model.specs.Package.{read_code, proof_start}
 use Rattle.model.specs.Annotation.{read_annotations}
-use Rattle.model.specs.Routine.{Routine, targets_annotated}
+use Rattle.model.specs.Routine.{Routine, targets_allowed}
 use Rattle.model.specs.Goals.{trace_of}
 use Rattle.model.specs.Verdict.{answered, judge}
 use Rattle.model.specs.declared.Header.{Header}
@@ -21,7 +21,7 @@ module _ (bytes : List ℕ) where
   unfoldable pub routine_from : Header → List Instruction → Result Routine Refusal
   routine_from h code = do
     annotations ← read_annotations bytes h
-    _ ← targets_annotated annotations 0 code
+    _ ← targets_allowed annotations 0 code
     Ok (record { code = code; annotations = annotations; proof = proof_start h })
 
   -- the answer for a code that was checked

@@ -1,28 +1,24 @@
 -- Laws of the blocks. Assumes nothing.
-use mathlib.Core.Path.{◌≡◌, sym, ap, ap₂, subst, ◌∙◌}
+use mathlib.Core.Path.{◌≡◌, refl, sym, ap, ap₂, subst, ◌∙◌}
 use mathlib.Core.Logic.{◌≢◌}
 use borrow.Author.Tests.{eq-eqb, ne_eqb}
-use mathlib.Core.Option.{some}
 use mathlib.Core.List.{List, []}
-use Prim.Native.Nat.{ℕ, ◌+◌, ◌-◌, ◌<◌, ◌≤◌}
+use Prim.Native.Nat.{ℕ, ◌+◌, ◌<◌, ◌≤◌}
 use native.Mathlib.Omega.{arith}
 use native.Mathlib.Numerals.{add-one}
 use lib.ListN.{length, get_or, drop, drop_of_length-le}
 use lib.Seq.{drop-cons}
-use Rattle.std.specs.Prelude.{Option, None, Some}
 use Rattle.model.specs.Result.{Result, Ok, Err}
 use Rattle.model.specs.Term.{Term, constant}
 use Rattle.model.specs.Policy.{Policy}
 use Rattle.model.specs.Routine.{Routine}
-use Rattle.model.specs.Package.{proof_start, most_instructions}
-use Rattle.model.specs.Annotation.{Annotation, annotation_at}
-use Rattle.model.specs.Goals.{Path as ModelPath, Trace, finish, append, arrival, block_start, landing, walk, entry_block, annotation_block, annotation_blocks, trace_of}
+use Rattle.model.specs.Package.{proof_start}
+use Rattle.model.specs.Annotation.{Annotation}
+use Rattle.model.specs.Goals.{Trace, finish, append, block_start, most_visits, follow, entry_block, annotation_block, annotation_blocks, trace_of}
 use Rattle.model.specs.Verdict.{least_workspace, judge}
 use Rattle.model.specs.declared.Refusal.TheVariants.{ProofLeft}
 use Rattle.model.specs.Atom.{most_atoms}
-use Rattle.workspace.specs.Layout.{assumption_base, Same}
 use Rattle.nodes.specs.Table.{term_at}
-use Rattle.workspace.proofs.Frames.{same_within}
 use Rattle.forms.specs.Area.{Cleared}
 use Rattle.annotations.specs.declared.reading.Annotated.{Annotated}
 use Rattle.annotations.specs.Annotations.{annotation_at_place}
@@ -30,97 +26,70 @@ use Rattle.annotations.proofs.Facts.{Laid, laid_at}
 use Rattle.refusals.specs.declared.Refused.{Refused}
 use Rattle.setting.specs.declared.Setting.{Setting}
 use Rattle.setting.specs.Setting.{Stands}
-use Rattle.setting.proofs.Standing.{limit_stands, precondition_stands, code_long, annotations_long, annotation_in, index_in, placed_in, tables_stand}
-use Rattle.goals.specs.Judging.{Reached, verdict_after, Judges, JudgesTrace}
+use Rattle.setting.proofs.Standing.{limit_stands, precondition_stands, annotations_long, annotation_in, index_in, placed_in}
+use Rattle.goals.specs.Judging.{Reached, verdict_after, JudgesTrace}
 use Rattle.goals.specs.declared.Progress.{Progress}
-use Rattle.goals.proofs.Judging.{goals_end, trace_end, trace_stopped, trace_both, trace_whole}
-use Rattle.paths.specs.Walking.{path_of, NodeIn, Kept}
-use Rattle.paths.proofs.Kept.{kept_same, node_equal, node_held, path_equal}
+use Rattle.goals.proofs.Judging.{trace_end, trace_stopped, trace_both, trace_whole}
+use Rattle.paths.specs.Walking.{path_of}
 use Rattle.blocks.specs.Starting.{Workspace, BlockIn, EntryBlock, AnnotationBlock}
 use Rattle.blocks.specs.declared.Block.{Block}
-use Rattle.moves.specs.Moves.{RoomFor}
-use Rattle.moves.proofs.PathLaws.{room_kept}
-use Rattle.jumps.specs.Jumps.{ArrivedAs, Arrives}
-use Rattle.walks.specs.Walks.{Walks}
+use Rattle.paths.specs.declared.Path.{Path}
+use Rattle.walks.specs.Walks.{count_of, RoomUp, RoomOn, Part, walked, followed, verdict_parted, Parts}
 use Rattle.evaluation.specs.Blocks.{TraceJudged, Noted, annotation_block_at, all_annotation_blocks, verdict_of}
 
--- words that keep the coefficients
-pub still_cleared : {ws us : List ℕ} → Same 0 assumption_base ws us → Cleared ws → Cleared us
-still_cleared s c = record { word = λ k h. s.word k (omega arith) (omega arith) ∙ c.word k h }
+-- ---- what comes of the part of a block that is all of it
+-- no path is pending
+none_pending : (bytes : List ℕ) (policy : Policy) (routine : Routine) (credit : Term) (r : Result Progress Refused) (visits : ℕ) (rest : Trace) → verdict_parted bytes policy routine credit r visits [] rest ≡ verdict_after bytes policy r rest
+unfolding follow append
+none_pending bytes policy routine credit (Ok q) visits rest = refl
+none_pending bytes policy routine credit (Err x) visits rest = refl
 
--- the room of a block's path
-pub block_room : {us : List ℕ} {index left : ℕ} {b : Block} → least_workspace ≤ length us → index + left ≤ most_instructions → BlockIn us index b → RoomFor us b.path left
-block_room w h b = record {
-  words = w;
-  path_in = b.inside;
-  nodes = omega (arith, b.few);
-  assumed = omega (arith, b.more);
-  loaded = omega (arith, b.variables);
-  run = omega (arith, b.steps);
-  within = omega (arith, b.counter);
+-- a trace is judged that a part is where no path is pending
+pub part_judged : {us vs : List ℕ} {setting : Setting} {credit : Term} {part : Part} {path : Path} {p : Progress} {visits : ℕ} {r : Result Progress Refused} {trace : Policy → Routine → Trace}
+    → ((policy : Policy) (routine : Routine) → Stands setting policy routine → part policy routine [] ≡ trace policy routine) → Cleared us → Parts us vs setting credit part path p visits r → TraceJudged vs setting trace p r
+part_judged {setting = setting} {credit} {part} {path} {p} {visits} {r} same c w = record {
+  judged = λ policy routine s. record {
+    says = λ rest.
+        ap (λ (t : Trace). judge setting.tables.routine.bytes.now policy (append t rest) p.at p.goals) (sym (same policy routine s))
+        ∙ w.judged policy routine s [] rest
+        ∙ none_pending setting.tables.routine.bytes.now policy routine credit r visits rest;
+  };
+  cleared = record { word = λ k h. w.kept.low.word k (omega arith) (omega arith) ∙ c.word k h };
+  reached = w.reached;
 }
 
+-- ---- the room of a block's path
+module _ {us : List ℕ} (setting : Setting) {index : ℕ} {b : Block} (words : least_workspace ≤ length us) (inside : index ≤ count_of setting) (start : BlockIn us index b) where
+  pub block_up : RoomUp us setting b.path
+  block_up = record {
+    words = words;
+    path_in = start.inside;
+    nodes = omega (arith, start.few, setting.tables.routine.fits.few);
+    assumed = omega (arith, start.more, setting.tables.routine.fits.few);
+    loaded = omega (arith, start.variables, setting.tables.routine.fits.few);
+    run = omega (arith, start.steps, setting.tables.routine.fits.few);
+    within = omega (arith, start.counter, inside, setting.tables.routine.fits.few);
+  }
+
+  pub block_on : RoomOn us setting b.path
+  block_on = record {
+    stops = record { words = words; path_in = start.inside; nodes = omega (arith, start.few); assumed = omega (arith, start.more); loaded = omega (arith, start.variables); run = omega (arith, start.steps); within = omega (arith, start.counter, inside, setting.tables.routine.fits.few) };
+    inside = omega (arith, start.counter, inside);
+    goes_on = λ _. block_up;
+  }
+
 -- ---- the block at instruction 0
-pub entry_room : {us : List ℕ} (setting : Setting) {b : Block} → least_workspace ≤ length us → EntryBlock us setting.conditions.now setting.policy.precondition setting.policy.limit b → RoomFor us b.path setting.tables.routine.header.instructions
-entry_room setting words start = block_room words (omega (arith, setting.tables.routine.fits.few)) start.block
-
--- the block that ends at once
-entry_annotated : (bytes : List ℕ) (policy : Policy) (routine : Routine) {p : Progress} {r : Result Progress Refused} → (note : Annotation) × (annotation_at routine.annotations 0 ≡ some note) × Judges bytes policy (arrival (block_start 0 policy.precondition) (constant policy.limit) note) p r
-    → JudgesTrace bytes policy (entry_block policy routine) p r
-unfolding entry_block landing
-entry_annotated bytes policy routine {p} {r} (note, is, judges) =
-    subst (λ o. JudgesTrace bytes policy (landing policy routine (constant policy.limit) (walk policy routine (constant policy.limit) (length routine.code)) (block_start 0 policy.precondition) o) p r) (sym is)
-    (goals_end judges)
-
 module _ {us : List ℕ} (setting : Setting) {b : Block} (start : EntryBlock us setting.conditions.now setting.policy.precondition setting.policy.limit b) where
-  module _ {policy : Policy} {routine : Routine} (s : Stands setting policy routine) where
-    entry_path : path_of us b.path ≡ block_start 0 policy.precondition
-    entry_path = start.is policy.precondition _ (precondition_stands setting s)
+  -- its path and its credit
+  entry_path : {policy : Policy} {routine : Routine} → Stands setting policy routine → path_of us b.path ≡ block_start 0 policy.precondition
+  entry_path s = start.is _ _ (precondition_stands setting s)
 
-    entry_credit : term_at us b.credit ≡ constant policy.limit
-    entry_credit = start.credit ∙ ap constant (sym (limit_stands setting s))
+  entry_credit : {policy : Policy} {routine : Routine} → Stands setting policy routine → term_at us b.credit ≡ constant policy.limit
+  entry_credit s = start.credit ∙ ap constant (sym (limit_stands setting s))
 
-  module _ {vs : List ℕ} {p : Progress} where
-    -- what the arrival says of the block's own start
-    entry_arrived : {o : Result (Option Progress) Refused} → Arrives us vs setting.tables (term_at us b.credit) b.path p o → (policy : Policy) (routine : Routine) → Stands setting policy routine
-        → ArrivedAs setting.tables.routine.bytes.now policy (block_start 0 policy.precondition) (constant policy.limit) (annotation_at routine.annotations 0) p o
-    entry_arrived {o} a policy routine s =
-        subst (λ (c : Term). ArrivedAs setting.tables.routine.bytes.now policy (block_start 0 policy.precondition) c (annotation_at routine.annotations 0) p o) (entry_credit s)
-        (subst (λ (t : ModelPath). ArrivedAs setting.tables.routine.bytes.now policy t (term_at us b.credit) (annotation_at routine.annotations t.counter) p o) (entry_path s)
-        (a.judged policy routine (tables_stand setting s)))
-
-    entry_cleared : {o : Result (Option Progress) Refused} → Arrives us vs setting.tables (term_at us b.credit) b.path p o → Cleared vs
-    entry_cleared a = still_cleared (same_within 0 assumption_base (omega arith) (omega arith) a.kept) start.block.inside.prepared.cleared
-
-    pub entry_arrives : {q : Progress} → Arrives us vs setting.tables (term_at us b.credit) b.path p (Ok (Some q)) → TraceJudged vs setting entry_block p (Ok q)
-    entry_arrives a = record { judged = λ policy routine s. entry_annotated setting.tables.routine.bytes.now policy routine (entry_arrived a policy routine s); cleared = entry_cleared a; reached = a.reached }
-
-    pub entry_stopped : {x : Refused} → Arrives us vs setting.tables (term_at us b.credit) b.path p (Err x) → TraceJudged vs setting entry_block p (Err x)
-    entry_stopped a = record { judged = λ policy routine s. entry_annotated setting.tables.routine.bytes.now policy routine (entry_arrived a policy routine s); cleared = entry_cleared a; reached = tt }
-
-    -- it goes on
-    module _ (a : Arrives us vs setting.tables (term_at us b.credit) b.path p (Ok None)) where
-      entry_kept : Kept us vs b.path
-      entry_kept = kept_same b.path (omega (arith, start.block.more)) a.kept
-
-      pub entry_walk_room : length vs ≡ length us → RoomFor us b.path setting.tables.routine.header.instructions → RoomFor vs b.path setting.tables.routine.header.instructions
-      entry_walk_room long g = room_kept entry_kept long g
-
-      pub entry_walk_credit : NodeIn vs b.path b.credit
-      entry_walk_credit = node_held entry_kept start.block.credit
-
-      pub entry_walks : {xs : List ℕ} {j : Result Progress Refused} → Walks vs xs setting (term_at vs b.credit) setting.tables.routine.header.instructions b.path p j → TraceJudged xs setting entry_block p j
-      unfolding entry_block landing
-      entry_walks {xs} {j} w = record {
-        judged = λ policy routine s.
-            subst (λ o. JudgesTrace setting.tables.routine.bytes.now policy (landing policy routine (constant policy.limit) (walk policy routine (constant policy.limit) (length routine.code)) (block_start 0 policy.precondition) o) p j) (sym (entry_arrived a policy routine s))
-            (subst (λ (n : ℕ). JudgesTrace setting.tables.routine.bytes.now policy (walk policy routine (constant policy.limit) n (block_start 0 policy.precondition)) p j) (sym (code_long setting s))
-            (subst (λ (c : Term). JudgesTrace setting.tables.routine.bytes.now policy (walk policy routine c setting.tables.routine.header.instructions (block_start 0 policy.precondition)) p j) (node_equal entry_kept start.block.credit ∙ entry_credit s)
-            (subst (λ (t : ModelPath). JudgesTrace setting.tables.routine.bytes.now policy (walk policy routine (term_at vs b.credit) setting.tables.routine.header.instructions t) p j) (path_equal entry_kept start.block.inside ∙ entry_path s)
-            (w.judged policy routine s))));
-        cleared = still_cleared w.low (entry_cleared a);
-        reached = w.reached;
-      }
+  pub entry_follows : {vs : List ℕ} {p : Progress} {visits : ℕ} {r : Result Progress Refused} → Parts us vs setting (term_at us b.credit) (followed (term_at us b.credit) most_visits (path_of us b.path)) b.path p visits r → TraceJudged vs setting entry_block p r
+  unfolding entry_block
+  entry_follows = part_judged (λ policy routine s. rw (entry_path s, entry_credit s)) start.block.inside.prepared.cleared
 
 -- ---- the block at an annotation
 pub noted_at : (setting : Setting) (k : ℕ) (other : Annotated) → k < length setting.tables.annotations.now → Noted setting (get_or setting.tables.annotations.now k other)
@@ -137,21 +106,12 @@ module _ {setting : Setting} {x : Annotated} (n : Noted setting x) where
   index_below = rw n.indexed note_laid.below
 
   module _ {us : List ℕ} {b : Block} (start : AnnotationBlock us setting.tables.routine.bytes.now (proof_start setting.tables.routine.header) x b) where
-    pub note_room : least_workspace ≤ length us → RoomFor us b.path (setting.tables.routine.header.instructions - x.index)
-    note_room words = block_room words (omega (arith, index_below, setting.tables.routine.fits.few)) start.block
-
-    pub note_left : b.path.counter + (setting.tables.routine.header.instructions - x.index) ≡ setting.tables.routine.header.instructions
-    note_left = omega (arith, index_below, start.block.counter)
-
-    pub note_walks : {xs : List ℕ} {p : Progress} {j : Result Progress Refused} → Walks us xs setting (term_at us b.credit) (setting.tables.routine.header.instructions - x.index) b.path p j → TraceJudged xs setting (annotation_block_at setting x) p j
+    pub note_walks : {vs : List ℕ} {p : Progress} {visits : ℕ} {r : Result Progress Refused} → Parts us vs setting (term_at us b.credit) (walked (term_at us b.credit) most_visits (path_of us b.path)) b.path p visits r
+        → TraceJudged vs setting (annotation_block_at setting x) p r
     unfolding annotation_block
-    note_walks w =
+    note_walks =
         let said = start.is (annotation_at_place setting.tables.routine.bytes.now setting.tables.routine.header x.at) note_laid.after n.placed.next note_laid.credit note_laid.atoms in
-        record {
-          judged = λ policy routine s. rw (code_long setting s, ← n.indexed, ← said.0, ← said.1) (w.judged policy routine s);
-          cleared = still_cleared w.low start.block.inside.prepared.cleared;
-          reached = w.reached;
-        }
+        part_judged (λ policy routine s. rw (← n.indexed, said.0, said.1)) start.block.inside.prepared.cleared
 
 -- ---- the blocks at the annotations
 -- k of them are judged, and what comes of all is what comes of those that are left

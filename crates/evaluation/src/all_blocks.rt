@@ -6,6 +6,7 @@ ghost use Rattle.evaluation.specs.Blocks.{TraceJudged, Noted, annotation_block_a
 
 use annotations::reading::Annotated;
 use goals::Progress;
+use limits::MOST_VISITS;
 use refusals::Refused;
 use setting::Setting;
 
@@ -21,16 +22,8 @@ fn entry(setting: &Setting, ws: &mut [u32], progress: Progress) -> Result<Progre
         setting.policy.limit,
         ws,
     );
-    match jumps::arrive(&setting.tables, ws, block, progress)? {
-        Some(after) => Ok(after),
-        None => walks::walk(
-            setting,
-            ws,
-            block,
-            setting.tables.routine.header.instructions,
-            progress,
-        ),
-    }
+    let mut visits = MOST_VISITS;
+    walks::follow(setting, ws, block, &mut visits, progress)
 }
 
 // The block at an annotation.
@@ -48,8 +41,8 @@ fn annotation(
     let bytes = setting.tables.routine.bytes;
     let end = setting.tables.routine.proof_start();
     let block = blocks::annotation_block(bytes, end, annotated, ws);
-    let left = setting.tables.routine.header.instructions - annotated.index;
-    walks::walk(setting, ws, block, left, progress)
+    let mut visits = MOST_VISITS;
+    walks::walk(setting, ws, block, &mut visits, progress)
 }
 
 // The blocks at the annotations, in order.

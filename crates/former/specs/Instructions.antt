@@ -6,7 +6,7 @@ use Rattle.model.specs.Word.{le16, le32}
 use Rattle.model.specs.Policy.{Policy, read_policy}
 use Rattle.model.specs.Package.{package_length, proof_start, most_annotations, most_bytes, read_header, read_code, code_of, Part, proof_section, finder_answer}
 use Rattle.model.specs.Annotation.{read_annotations}
-use Rattle.model.specs.Routine.{Routine, targets_annotated, read_routine}
+use Rattle.model.specs.Routine.{Routine, targets_allowed, read_routine}
 use Rattle.model.specs.Machine.{start_of}
 use Rattle.model.specs.Goals.{trace_of}
 use Rattle.model.specs.Verdict.{verdict, least_workspace, answered, judge, check_of}
@@ -44,7 +44,7 @@ module _ (bytes : List ℕ) (header : Result Header Refusal) where
     h ← header
     code ← read_code bytes h
     annotations ← read_annotations bytes h
-    _ ← targets_annotated annotations 0 code
+    _ ← targets_allowed annotations 0 code
     Ok (record { code = code; annotations = annotations; proof = proof_start h })
 
   unfoldable pub inputs_by : (workspace : ℕ) (policy_bytes : List ℕ) → Result (Policy × Routine) Refusal

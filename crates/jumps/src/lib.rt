@@ -1,25 +1,26 @@
-// What a jump, a branch or a return does to a path of a block, and arrivals at annotations.
+// Arrivals at annotations, the edges of branches, and returns.
 #![tactic(auto)]
 
-ghost use Rattle.std.specs.Prelude.{◌≡◌, ◌≤◌, ◌<◌};
-ghost use Rattle.model.specs.Expression.{register_count};
-ghost use Rattle.model.specs.Goals.{jump, path_to, ends, returning};
+ghost use Rattle.std.specs.Prelude.{◌≡◌, ◌≤◌, []};
+ghost use Rattle.model.specs.Goals.{goes, returning};
 ghost use Rattle.model.specs.Package.{most_instructions};
 ghost use Rattle.workspace.specs.Room.{goal_room};
 ghost use Rattle.nodes.specs.Table.{term_at};
+ghost use Rattle.nodes.specs.Atoms.{atom_in, AtomBelow};
 ghost use Rattle.goals.specs.Judging.{Reached};
 ghost use Rattle.paths.specs.Walking.{path_of, NodeIn};
 ghost use Rattle.goals.specs.Room.{Going};
 ghost use Rattle.moves.specs.Moves.{RoomFor, Moves};
-ghost use Rattle.jumps.specs.Jumps.{opposite_of, MovesBy, Returning, Branches, Arrives};
+ghost use Rattle.jumps.specs.Jumps.{opposite_of, Returning, Edge, Arrives};
 
 use arrivals;
 use blocks::Block;
 use derivation::Grounds;
 use goals::Progress;
-use model::{Comparison, Refusal};
+use model::Comparison;
 use moves::Moved;
 use nodes::Atom;
+use paths::Path;
 use policy::Condition;
 use refusals::Refused;
 use setting::Tables;
@@ -47,32 +48,8 @@ pub fn arrive(
     Ok(Some(after))
 }
 
-// jump to a target
-pub fn jump_to(
-    tables: &Tables,
-    ws: &mut [u32],
-    block: Block,
-    target: u32,
-    progress: Progress,
-) -> Result<Moved, Refused>
-    requires room_for { RoomFor ws.old block.path 1 }
-    requires credit_in { NodeIn ws.old block.path block.credit }
-    requires reached { Reached tables.now.routine.bytes.now progress }
-    requires target_in { target ≤ most_instructions }
-    ensures { MovesBy ws.old ws.new tables.now (term_at ws.old block.credit) (λ policy routine. jump policy routine (term_at ws.old block.credit) (path_of ws.old block.path) (path_to (path_of ws.old block.path) target) ends) block.path progress result }
-{
-    let there = Block {
-        path: block.path.stepped(target as usize),
-        ..block
-    };
-    let found = arrive(tables, ws, there, progress)?;
-    // Check 12 has seen that the target is annotated.
-    let after = found.ok_or(progress.refused(Refusal::Unannotated(block.path.counter)))?;
-    Ok(Moved::Ended(after))
-}
-
 // The comparison that holds where another does not.
-fn opposite(claimed: Atom) -> Atom
+pub fn opposite(claimed: Atom) -> Atom
     ensures { result ≡ opposite_of claimed.kind claimed.left claimed.right }
 {
     let Atom { kind, left, right } = claimed;
@@ -84,37 +61,14 @@ fn opposite(claimed: Atom) -> Atom
     }
 }
 
-// jump to a target if a comparison of registers a and b holds: the goals of the taken edge, where the condition is assumed, and then on with the opposite
-pub fn branch_to(
-    tables: &Tables,
-    ws: &mut [u32],
-    block: Block,
-    kind: Comparison,
-    a: u8,
-    b: u8,
-    target: u32,
-    progress: Progress,
-) -> Result<Moved, Refused>
-    requires room_for { RoomFor ws.old block.path 1 }
-    requires credit_in { NodeIn ws.old block.path block.credit }
-    requires reached { Reached tables.now.routine.bytes.now progress }
-    requires target_in { target ≤ most_instructions }
-    requires registers { (a < register_count) × (b < register_count) }
-    ensures { Branches ws.old ws.new tables.now (term_at ws.old block.credit) block.path kind a b target progress result }
+// An edge of a branch: the path with one instruction more run, at an index, and with a comparison assumed there besides. What stands above the path
+// is overwritten.
+pub fn edge(ws: &mut [u32], path: Path, index: usize, assumption: Atom) -> Path
+    requires room_for { RoomFor ws.old path 1 }
+    requires sides_below { AtomBelow path.top assumption }
+    ensures { Edge ws.old ws.new path index (atom_in ws.old assumption) result }
 {
-    let path = block.path;
-    let taken = Atom::new(kind, path.node(a), path.node(b));
-    let stepped = path.stepped(target as usize);
-    let there = Block {
-        path: blocks::assuming(ws, stepped, taken),
-        ..block
-    };
-    let found = arrive(tables, ws, there, progress)?;
-    // Check 12 has seen that the target is annotated.
-    let after = found.ok_or(progress.refused(Refusal::Unannotated(path.counter)))?;
-    let next = path.stepped(path.counter + 1);
-    let on = blocks::assuming(ws, next, opposite(taken));
-    Ok(Moved::On(on, after))
+    blocks::assuming(ws, path.stepped(index), assumption)
 }
 
 // return: the postcondition's atoms, which stand in `conditions`, and the credit
@@ -129,7 +83,7 @@ pub fn return_from(
     requires room_for { RoomFor ws.old block.path 1 }
     requires credit_in { NodeIn ws.old block.path block.credit }
     requires reached { Reached grounds.now.bytes.now progress }
-    ensures { Moves ws.old ws.new grounds.now.bytes.now (Returning conditions.now postcondition grounds.now.regions.now) (term_at ws.old block.credit) (λ policy routine. ends (returning (path_of ws.old block.path) (term_at ws.old block.credit) policy.postcondition)) block.path progress result }
+    ensures { Moves ws.old ws.new grounds.now.bytes.now (Returning conditions.now postcondition grounds.now.regions.now) (term_at ws.old block.credit) (λ policy routine. goes (returning (path_of ws.old block.path) (term_at ws.old block.credit) policy.postcondition) []) block.path progress result }
 {
     let after = arrivals::returning(grounds, conditions, postcondition, ws, block, progress)?;
     Ok(Moved::Ended(after))

@@ -37,3 +37,6 @@ pub const MOST_LEVELS: usize = 32;
 
 // least_workspace: words of the lent workspace, at least.
 pub const LEAST_WORKSPACE: usize = 16384;
+
+// most_visits: instructions that a block may evaluate, those of all its paths counted.
+pub const MOST_VISITS: usize = 4096;

@@ -53,9 +53,8 @@ pub fn evaluated(ws: &[u32], claim: Claim, plan: &mut Plan) -> Result<(), Misfit
     ensures { Planned Anywhere (asks evaluation (claim_of ws.now claim)) ws.now ws.now plan.old.top (filled result plan.new) }
 {
     let claimed = parts::comparison(claim)?;
-    let a = term_walks::evaluate(ws, claimed.left).ok_or(Misfit)?;
-    let b = term_walks::evaluate(ws, claimed.right).ok_or(Misfit)?;
-    plan.ask_nothing_if(parts::holds(claimed.kind, a, b))
+    let values = term_walks::evaluate(ws, claimed.left, claimed.right).ok_or(Misfit)?;
+    plan.ask_nothing_if(parts::holds(claimed.kind, values.left, values.right))
 }
 
 // Rules 4 and 21: a ~ b from b ~ a.

@@ -17,7 +17,7 @@ use Rattle.model.specs.Routine.{Routine}
 use Rattle.model.specs.Rule.{Rule, Format, plain, with_index, with_term, with_region}
 use Rattle.model.specs.Verdict.{answered, judge}
 use Rattle.model.specs.declared.Refusal.{Refusal}
-use Rattle.model.specs.declared.Refusal.TheVariants.{SmallWorkspace, WrongStart, PolicyLength, PolicySize, BadRegion, PolicyExpression, BadHeader, BadInstruction, BadTarget, BadAnnotation, AnnotationBytes, Unannotated, PastLast, LargeTerm, ProofExhausted, UnfitRule, DeepDerivation, BadArgument, ProofLeft}
+use Rattle.model.specs.declared.Refusal.TheVariants.{SmallWorkspace, WrongStart, PolicyLength, PolicySize, BadRegion, PolicyExpression, BadHeader, BadInstruction, BadTarget, BadAnnotation, AnnotationBytes, Unannotated, PastLast, LargeTerm, ProofExhausted, UnfitRule, DeepDerivation, BadArgument, ProofLeft, LongBlock}
 use Rattle.model.specs.declared.Verdict.{Verdict}
 use Rattle.model.proofs.Gives.{Gives, gives_map, gives_element, gives_as, gives, gives_then, gives_next, gives_value, stops}
 use Rattle.model.proofs.Lists.{empty, Every, ◌&◌}
@@ -145,6 +145,7 @@ number_positive (UnfitRule p) = omega arith
 number_positive (DeepDerivation p) = omega arith
 number_positive (BadArgument p) = omega arith
 number_positive (ProofLeft p) = omega arith
+number_positive (LongBlock p) = omega arith
 
 -- an answer 0 comes of a value
 pub answered_value : {A : Type 0} (r : Result A Refusal) (derived : ℕ) (k : A → Verdict) → (answered r derived k).number ≡ 0

@@ -31,15 +31,14 @@ WordInstruction Return = Unit
 WordInstruction (Mask d a i) = i < 2 ^ 32
 WordInstruction (Shift d a i) = Unit
 
-pub record FormedAnnotation (size : ℕ) (a : Annotation) : Type 0 where
-  pub index : a.index < size
+pub record FormedAnnotation (a : Annotation) : Type 0 where
   pub credit : RegisterTerm a.credit
   pub atoms : Every RegisterAtom a.atoms
 
 pub record FormedRoutine (routine : Routine) : Type 0 where
   pub few : length routine.code ≤ most_instructions
   pub code : Every WordInstruction routine.code
-  pub annotations : Every (FormedAnnotation (length routine.code)) routine.annotations
+  pub annotations : Every FormedAnnotation routine.annotations
 
 -- ---- the annotation at an index
 

@@ -31,6 +31,10 @@ module _ {A : Type 0} {P : A → Type 0} where
   every_right [] ys h = h
   every_right (x ∷ xs) ys (p & h) = every_right xs ys h
 
+  pub every_map : {Q : A → Type 0} {xs : List A} → ((x : A) → P x → Q x) → Every P xs → Every Q xs
+  every_map k empty = empty
+  every_map k (◌&◌ {a = x} p h) = k x p & every_map k h
+
   -- of the element at an index
   pub every_at : {xs : List A} (i : ℕ) {x₁ : A} → Every P xs → get_elem? xs i ≡ some x₁ → P x₁
   every_at i empty e = let z : ◌≡◌ {A = ℕ} 0 1 = cc in absurd (omega arith)
@@ -58,6 +62,12 @@ module _ {A : Type 0} where
   get_inside [] i d h = absurd (not-suc-le-zero h)
   get_inside (x ∷ xs) zero d h = refl
   get_inside (x ∷ xs) (suc i) d h = get_inside xs i d (le_of_suc-le-suc h)
+
+  -- an index at which there is an element
+  pub inside_get : (xs : List A) (i : ℕ) {x₁ : A} → get_elem? xs i ≡ some x₁ → i < length xs
+  inside_get [] i e = let z : ◌≡◌ {A = ℕ} 0 1 = cc in absurd (omega arith)
+  inside_get (x ∷ xs) zero e = omega arith
+  inside_get (x ∷ xs) (suc i) e = omega (arith, inside_get xs i e)
 
   -- another element than the one that is set
   pub get_other : (xs : List A) (i j : ℕ) (x : A) → (i ≡ j → ⊥) → get_elem? (set xs i x) j ≡ get_elem? xs j

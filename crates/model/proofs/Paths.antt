@@ -6,12 +6,11 @@ use mathlib.Core.Option.{some, none}
 use mathlib.Core.Path.{◌≡◌, ap, ◌∙◌, sym, subst}
 use native.Mathlib.Nat.{add-zero, mod-eq_of_lt}
 use native.Mathlib.Omega.{arith}
-use lib.ListN.{length, get_elem?, get_or, set, length-set, get_or-map}
+use lib.ListN.{get_elem?, get_or, set, length-set, get_or-map}
 use Rattle.model.specs.Annotation.{Annotation}
 use Rattle.model.specs.Atom.{Atom, at_most, Compares, Holds, AllHold, registers_of}
-use Rattle.model.specs.Goals.{Path, term_of, address_term, goal_of, path_to, onward, assuming, atom_goals, arrival, returning, atom, readable, writable}
+use Rattle.model.specs.Goals.{Path, term_of, address_term, goal_of, path_to, onward, assuming, atom_goals, arrival, returning, most_visits, atom, readable, writable}
 use Rattle.model.specs.Machine.{State, word, address, assigned, stored, jumped, step, next, returns, without_right, past_end}
-use Rattle.model.specs.Package.{most_instructions}
 use Rattle.model.specs.Policy.{Policy, readable_word, writable_word}
 use Rattle.model.specs.Property.{Words}
 use Rattle.model.specs.Term.{Term, eval, substitute, constant, difference}
@@ -29,7 +28,7 @@ pub record Matches (policy : Policy) (env : ℕ → ℕ) (s : Path) (m : State) 
   pub counter : m.counter ≡ s.counter
   pub registers : map (eval env) s.registers ≡ m.registers
   pub assumed : AllHold env s.assumptions
-  pub few : s.steps ≤ most_instructions
+  pub few : s.steps ≤ most_visits
   pub words : Words policy m.registers m.memory
 
 module _ {policy : Policy} {env : ℕ → ℕ} {s : Path} {m : State} (h : Matches policy env s m) where
@@ -64,7 +63,7 @@ module _ {policy : Policy} {env : ℕ → ℕ} {s : Path} {m : State} (h : Match
         (subst (λ (l : List ℕ). Holds (registers_of l) a) h.registers here, atoms_hold atoms gs)
 
     module _ (credit : Term) where
-      enough : (k : ℕ) → k ≤ most_instructions → GoalHolds policy (goal_of s (atom (at_most (constant k) credit))) → k ≤ eval env credit
+      enough : (k : ℕ) → k ≤ most_visits → GoalHolds policy (goal_of s (atom (at_most (constant k) credit))) → k ≤ eval env credit
       unfolding ClaimHolds Holds Compares eval
       enough k l g =
           let wrapped : k % 2 ^ 32 ≤ eval env credit = g env word_env h.assumed in
@@ -99,13 +98,13 @@ module _ {policy : Policy} {env : ℕ → ℕ} {s : Path} {m : State} (h : Match
         unfolding returning
         returned_atoms = atoms_hold policy.postcondition (every_left (atom_goals s policy.postcondition) _ gs)
 
-        pub returned_credit : s.steps + 1 ≤ most_instructions → s.steps + 1 ≤ eval env credit
+        pub returned_credit : s.steps + 1 ≤ most_visits → s.steps + 1 ≤ eval env credit
         unfolding returning
         returned_credit l = enough (s.steps + 1) l (every_head (every_right (atom_goals s policy.postcondition) _ gs))
 
   -- ---- how the match goes on
 
-  module _ (room : s.steps + 1 ≤ most_instructions) where
+  module _ (room : s.steps + 1 ≤ most_visits) where
     -- an assignment of a term's value, whatever variables there are then
     pub assigned_matches : (variables d : ℕ) (t : Term) (w : ℕ) → eval env t ≡ w → w < 2 ^ 32
         → Matches policy env
@@ -187,15 +186,13 @@ module _ (policy : Policy) (code : List Instruction) where
   unfolding loads
   loads_next left m u f e = rw (e, f, loads)
 
-  -- With so many instructions left up to n, a path at a counter, after so many steps, with so many variables:
-  -- each further variable is what the machine will load.
-  pub record Ahead (env : ℕ → ℕ) (left counter steps variables : ℕ) (m : State) : Type 0 where
-    pub place : counter + left ≡ length code
-    pub room : steps + left ≤ most_instructions
+  -- With so many steps foreseen, a path after so many steps, with so many variables: each further variable is what the machine will load.
+  pub record Ahead (env : ℕ → ℕ) (left steps variables : ℕ) (m : State) : Type 0 where
+    pub room : steps + left ≤ most_visits
     pub foretold : (i : ℕ) → env (variables + i) ≡ get_or (loads left m) i 0 % 2 ^ 32
 
   -- after a step to u
-  module _ {env : ℕ → ℕ} {left counter steps variables : ℕ} {m : State} (h : Ahead env (suc left) counter steps variables m)
+  module _ {env : ℕ → ℕ} {left steps variables : ℕ} {m : State} (h : Ahead env (suc left) steps variables m)
       (u : State) (instruction : Instruction) (fetched : get_elem? code m.counter ≡ some instruction) (stepped : step policy code m ≡ next u) where
     -- what is foretold, by what this instruction loads and what comes after it
     now : (loaded : List ℕ) → loaded_by m instruction ≡ loaded → (i : ℕ) → env (variables + i) ≡ get_or (loaded ++ loads left u) i 0 % 2 ^ 32
@@ -203,12 +200,12 @@ module _ (policy : Policy) (code : List Instruction) where
         let split = loads_next left m u fetched stepped ∙ ap (λ (l : List ℕ). l ++ loads left u) e in
         h.foretold i ∙ ap (λ (l : List ℕ). get_or l i 0 % 2 ^ 32) split
 
-    pub ahead_next : loaded_by m instruction ≡ [] → Ahead env left (counter + 1) (steps + 1) variables u
-    ahead_next e = record { place = omega (arith, h.place); room = omega (arith, h.room); foretold = now [] e }
+    pub ahead_next : loaded_by m instruction ≡ [] → Ahead env left (steps + 1) variables u
+    ahead_next e = record { room = omega (arith, h.room); foretold = now [] e }
 
     -- a load: the next variable is its value
-    pub ahead_load : (w : ℕ) → loaded_by m instruction ≡ w ∷ [] → Ahead env left (counter + 1) (steps + 1) (variables + 1) u
-    ahead_load w e = record { place = omega (arith, h.place); room = omega (arith, h.room); foretold = later }
+    pub ahead_load : (w : ℕ) → loaded_by m instruction ≡ w ∷ [] → Ahead env left (steps + 1) (variables + 1) u
+    ahead_load w e = record { room = omega (arith, h.room); foretold = later }
       where
         later : (i : ℕ) → env (variables + 1 + i) ≡ get_or (loads left u) i 0 % 2 ^ 32
         later i =

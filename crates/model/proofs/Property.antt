@@ -1,5 +1,5 @@
 -- Property 3: from each annotation and from the entry the machine returns within the credit, and so an accepted routine is safe. Assumes nothing.
-use Prim.Native.Nat.{ℕ, ◌≤◌, ◌<◌, ◌^◌, ◌+◌, ◌%◌, zero, suc, ◌-◌}
+use Prim.Native.Nat.{ℕ, ◌<◌, ◌^◌, ◌+◌, ◌%◌, zero, suc}
 use mathlib.Core.List.{List, [], ◌∷◌, ◌++◌, map}
 use mathlib.Core.Option.{some, none, Option}
 use mathlib.Core.Path.{◌≡◌, refl, ap, ◌∙◌, sym, subst}
@@ -11,9 +11,9 @@ use lib.Seq.{get_or-append-add}
 use borrow.Author.Tests.{eq-eqb}
 use Rattle.model.specs.Annotation.{Annotation, annotation_at}
 use Rattle.model.specs.Atom.{Atom, AllHold, registers_of}
-use Rattle.model.specs.Goals.{register_variables, block_start, arrival, landing, walk, entry_block, annotation_block, annotation_blocks, trace_of, finish}
+use Rattle.model.specs.Goals.{register_variables, block_start, arrival, most_visits, follow, walk, entry_block, annotation_block, annotation_blocks, trace_of, finish}
 use Rattle.model.specs.Machine.{State, start_of}
-use Rattle.model.specs.Package.{most_instructions, code_of}
+use Rattle.model.specs.Package.{code_of}
 use Rattle.model.specs.Policy.{Policy, read_policy}
 use Rattle.model.specs.Property.{Words, Returns, Property}
 use Rattle.model.specs.Result.{◌>>=◌, check, found, Ok}
@@ -58,18 +58,22 @@ row_values env first (x ∷ l) h =
 
 -- ---- the environment of a block
 
-module _ (policy : Policy) (code : List Instruction) (left : ℕ) (m : State) where
+module _ (policy : Policy) (code : List Instruction) (m : State) where
+  -- what the machine loads in a block, at most
+  abbrev block_loads : List ℕ
+  block_loads = loads policy code most_visits m
+
   abbrev pub start_env : ℕ → ℕ
-  start_env v = get_or (m.registers ++ loads policy code left m) v 0 % 2 ^ 32
+  start_env v = get_or (m.registers ++ block_loads) v 0 % 2 ^ 32
 
   pub start_word : WordEnv start_env
   unfolding WordEnv
-  start_word v = mod-lt (get_or (m.registers ++ loads policy code left m) v 0) (lit< tt)
+  start_word v = mod-lt (get_or (m.registers ++ block_loads) v 0) (lit< tt)
 
   module _ (words : Words policy m.registers m.memory) where
     pub start_same : (v : ℕ) → v < 16 → start_env v ≡ registers_of m.registers v
     start_same v l =
-        let first = get_or-append m.registers (loads policy code left m) 0 v (omega (arith, words.register_count)) in
+        let first = get_or-append m.registers block_loads 0 v (omega (arith, words.register_count)) in
         ap (λ (x : ℕ). x % 2 ^ 32) first ∙ mod-eq_of_lt (below_get m.registers v words.register_words (lit< tt))
 
     pub start_matches : (index : ℕ) (atoms : List Atom) → m.counter ≡ index → Every RegisterAtom atoms → AllHold (registers_of m.registers) atoms
@@ -88,14 +92,13 @@ module _ (policy : Policy) (code : List Instruction) (left : ℕ) (m : State) wh
             ap (map (eval start_env)) (in_a_row ∙ ap (variables_from 0) (sym words.register_count))
             ∙ row_values start_env 0 m.registers (λ i b. ap start_env (zero-add i) ∙ start_same i (omega (arith, words.register_count)))
 
-    pub start_ahead : (index : ℕ) → index + left ≡ length code → left ≤ most_instructions → Ahead policy code start_env left index 0 16 m
-    start_ahead index place room =
+    pub start_ahead : Ahead policy code start_env most_visits 0 16 m
+    start_ahead =
         record {
-          place = place;
           room = omega arith;
           foretold = λ i.
               ap (λ (n : ℕ). start_env (n + i)) (sym words.register_count)
-              ∙ ap (λ (x : ℕ). x % 2 ^ 32) (get_or-append-add m.registers (loads policy code left m) i 0);
+              ∙ ap (λ (x : ℕ). x % 2 ^ 32) (get_or-append-add m.registers block_loads i 0);
         }
 
 -- ---- blocks
@@ -103,21 +106,19 @@ module _ (policy : Policy) (code : List Instruction) (left : ℕ) (m : State) wh
 module _ (policy : Policy) (routine : Routine) (formed : FormedRoutine routine) where
   -- a block that starts in a state, with the annotations of a lower credit safe
   block_safe : (m : State) → Words policy m.registers m.memory
-      → (left : ℕ) → m.counter + left ≡ length routine.code
       → (atoms : List Atom) → Every RegisterAtom atoms → AllHold (registers_of m.registers) atoms
       → (credit : Term) → RegisterTerm credit → SafeBelow policy routine (eval (registers_of m.registers) credit)
-      → Sound policy (walk policy routine credit left (block_start m.counter atoms))
+      → Sound policy (walk policy routine credit most_visits (block_start m.counter atoms) [])
       → SafeRun policy routine.code 0 (eval (registers_of m.registers) credit) m
-  block_safe m words left place atoms rs hold credit r lower sound =
+  block_safe m words atoms rs hold credit r lower sound =
       let code = routine.code in
-      let env = start_env policy code left m in
-      let same : eval env credit ≡ eval (registers_of m.registers) credit = eval_same (start_same policy code left m words) credit r in
+      let env = start_env policy code m in
+      let same : eval env credit ≡ eval (registers_of m.registers) credit = eval_same (start_same policy code m words) credit r in
+      let walks = walk_safe policy routine formed env (start_word policy code m) credit (subst (SafeBelow policy routine) (sym same) lower) most_visits in
       subst (λ (c : ℕ). SafeRun policy code 0 c m) same
-      (walk_safe policy routine formed env (start_word policy code left m) credit (subst (SafeBelow policy routine) (sym same) lower)
-      left (block_start m.counter atoms) m
-      (start_matches policy code left m words m.counter atoms refl rs hold)
-      (start_ahead policy code left m words m.counter place (omega (arith, formed.few)))
-      sound)
+      ((walks (block_start m.counter atoms) [] sound).0 most_visits m (omega arith)
+      (start_matches policy code m words m.counter atoms refl rs hold)
+      (start_ahead policy code m words))
 
   module _ (sound : Sound policy (trace_of policy routine)) where
     entry_sound : Sound policy (entry_block policy routine)
@@ -136,35 +137,35 @@ module _ (policy : Policy) (routine : Routine) (formed : FormedRoutine routine) 
     annotations_safe zero a m found words atoms l = absurd (omega arith)
     annotations_safe (suc limit) a m found words atoms l =
         let (fa, at) = found_at routine.annotations m.counter formed.annotations found in
-        let left = length routine.code - a.index in
         let block = (found_at routine.annotations m.counter blocks_sound found).0 in
-        block_safe m words left (omega (arith, fa.index)) a.atoms fa.atoms atoms a.credit fa.credit
+        block_safe m words a.atoms fa.atoms atoms a.credit fa.credit
         (λ b u f w h k. annotations_safe limit b u f w h (omega arith))
-        (subst (λ (i : ℕ). Sound policy (walk policy routine a.credit left (block_start i a.atoms))) at block)
+        (subst (λ (i : ℕ). Sound policy (walk policy routine a.credit most_visits (block_start i a.atoms) [])) at block)
 
     module _ (pre : Every RegisterAtom policy.precondition) where
-      -- "the block at 0 does [stop], with k = 0, if 0 is annotated"
+      -- "the block at 0 does [stop], with k = 0, if 0 is annotated": its start is followed
+      entry_followed : Sound policy (follow policy routine (constant policy.limit) (walk policy routine (constant policy.limit) most_visits) (block_start 0 policy.precondition ∷ []))
+      unfolding entry_block
+      entry_followed = entry_sound
+
       pub entry_safe : (m : State) → m.counter ≡ 0 → Words policy m.registers m.memory → AllHold (registers_of m.registers) policy.precondition
           → SafeRun policy routine.code 0 policy.limit m
-      unfolding entry_block landing eval RegisterTerm
-      entry_safe m at words hold = safe_rest (omega arith) (go (annotation_at routine.annotations 0) refl entry_sound)
+      unfolding follow eval RegisterTerm
+      entry_safe m at words hold = safe_rest (omega arith) (go (annotation_at routine.annotations 0) refl)
         where
-          left : ℕ
-          left = length routine.code
-
           credit : Term
           credit = constant policy.limit
 
           go : (o : Option Annotation) → annotation_at routine.annotations 0 ≡ o
-              → Sound policy (landing policy routine credit (walk policy routine credit left) (block_start 0 policy.precondition) o)
               → SafeRun policy routine.code 0 (eval (registers_of m.registers) credit) m
-          go none found q =
-              block_safe m words left (omega arith) policy.precondition pre hold credit tt (annotations_safe _)
-              (subst (λ (i : ℕ). Sound policy (walk policy routine credit left (block_start i policy.precondition))) (sym at) q)
-          go (some a) found q =
-              let matches = start_matches policy routine.code left m words 0 policy.precondition at pre hold in
-              let word_env = start_word policy routine.code left m in
-              let gs = sound_goals policy (arrival (block_start 0 policy.precondition) credit a) finish q in
+          go none found =
+              block_safe m words policy.precondition pre hold credit tt (annotations_safe _)
+              (subst (λ (i : ℕ). Sound policy (walk policy routine credit most_visits (block_start i policy.precondition) [])) (sym at)
+              (rw (found, follow) at entry_followed))
+          go (some a) found =
+              let matches = start_matches policy routine.code m words 0 policy.precondition at pre hold in
+              let word_env = start_word policy routine.code m in
+              let gs = sound_goals policy (arrival (block_start 0 policy.precondition) credit a) finish (rw (found, follow) at entry_followed) in
               let here = ap (annotation_at routine.annotations) at ∙ found in
               safe_rest (arrived_credit matches word_env credit a gs)
               (annotations_safe _ a m here words (arrived_atoms matches word_env credit a gs) (lt-suc_self _))

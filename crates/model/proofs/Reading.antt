@@ -21,7 +21,7 @@ use Rattle.model.specs.Word.{le16, le32, AllBelow}
 use Rattle.model.specs.declared.Header.{Header}
 use Rattle.model.specs.declared.Instruction.{Instruction}
 use Rattle.model.specs.declared.Refusal.{Refusal}
-use Rattle.model.specs.declared.Refusal.TheVariants.{PolicySize, BadRegion, BadHeader, BadAnnotation}
+use Rattle.model.specs.declared.Refusal.TheVariants.{PolicySize, BadRegion, BadHeader}
 use Rattle.model.specs.declared.Sizes.{Sizes}
 use Rattle.model.proofs.Formed.{FormedAnnotation, FormedRoutine, WordInstruction}
 use Rattle.model.proofs.Gives.{Gives, gives_check, gives_element, gives_as, gives, gives_then, gives_next, gives_value, stops}
@@ -156,29 +156,25 @@ module _ (bytes : List ℕ) where
       gives_next λ _ _. gives (leb-true n most_instructions (and_right (leb 1 n) (leb n most_instructions) few))
 
   module _ (h : Header) where
-    annotation_formed : (lowest p : ℕ) → Gives (λ (r : Annotation × ℕ). FormedAnnotation h.instructions r.0) (annotation_from bytes h lowest p)
+    annotation_formed : (lowest p : ℕ) → Gives (λ (r : Annotation × ℕ). FormedAnnotation r.0) (annotation_from bytes h lowest p)
     unfolding annotation_from
     annotation_formed lowest p =
-        gives_next λ index _.
-        gives_then (gives_check (leb lowest index && ltb index h.instructions) (BadAnnotation p)) λ _ inside.
+        gives_next λ _ _.
+        gives_next λ _ _.
         gives_next λ count _.
         gives_next λ _ _.
         gives_then (gives_as _ (expression_formed bytes (proof_start h) (p + 3))) λ credit v.
         gives_then (gives_as _ (atoms_formed bytes (proof_start h) count credit.1)) λ atoms w.
-        gives (record {
-          index = ltb-true index h.instructions (and_right (leb lowest index) (ltb index h.instructions) inside);
-          credit = v;
-          atoms = w;
-        })
+        gives (record { credit = v; atoms = w })
 
     annotations_formed : (left lowest p : ℕ)
-        → Gives (λ (r : List Annotation × ℕ). Every (FormedAnnotation h.instructions) r.0) (annotations_from bytes h left lowest p)
+        → Gives (λ (r : List Annotation × ℕ). Every FormedAnnotation r.0) (annotations_from bytes h left lowest p)
     unfolding annotations_from
     annotations_formed zero lowest p = gives empty
     annotations_formed (suc left) lowest p =
         gives_then (annotation_formed lowest p) λ a v. gives_then (annotations_formed left (a.0.index + 1) a.1) λ _ w. gives (v & w)
 
-    section_formed : Gives (Every (FormedAnnotation h.instructions)) (read_annotations bytes h)
+    section_formed : Gives (Every FormedAnnotation) (read_annotations bytes h)
     unfolding read_annotations
     section_formed = gives_then (annotations_formed h.annotations 0 (annotation_start h)) λ r w. gives_next λ _ _. gives w
 
@@ -198,4 +194,4 @@ routine_formed bytes below =
     gives_next λ _ _.
     let (words, count) = gives_value f (code_formed bytes below h h.instructions 0) in
     let few = gives_value e (header_formed bytes) in
-    gives (record { few = rw count few; code = words; annotations = rw count w }, code_read bytes e f)
+    gives (record { few = rw count few; code = words; annotations = w }, code_read bytes e f)

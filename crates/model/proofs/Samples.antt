@@ -1,7 +1,7 @@
 -- The samples: evaluated by the definitions, each has the answer that document 01, or 02, gives. Assumes nothing.
 use mathlib.Core.Bool.{true}
 use mathlib.Core.Path.{◌≡◌, refl}
-use Rattle.model.specs.Samples.{all_right, samples, packaged, mask_samples, table_samples, difference_samples, length_samples}
+use Rattle.model.specs.Samples.{all_right, samples, packaged, mask_samples, table_samples, difference_samples, length_samples, jump_samples}
 
 -- every sample that is marked (P) has its answer
 pub samples_right : all_right samples ≡ true
@@ -23,3 +23,7 @@ differences_right = refl
 pub lengths_right : all_right length_samples ≡ true
 unfolding all_right
 lengths_right = refl
+
+pub jumps_right : all_right jump_samples ≡ true
+unfolding all_right packaged
+jumps_right = refl

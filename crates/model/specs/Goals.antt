@@ -1,13 +1,14 @@
 -- Symbolic evaluation: the verification conditions of a routine, in order ("goals" in document 01). Assumes nothing.
-use Rattle.std.specs.Prelude.{ℕ, zero, suc, ◌+◌, ◌-◌, Bool, true, false, List, [], ◌∷◌, ◌++◌, map, length, get_or, set, leb}
+use Rattle.std.specs.Prelude.{ℕ, zero, suc, ◌+◌, Bool, true, false, List, [], ◌∷◌, ◌++◌, map, length, get_or, set, leb}
 use Rattle.std.proofs.Math.Option.{Option, none, some}
+use Rattle.std.proofs.Math.ListN.{get_elem?}
 use Rattle.model.specs.Term.{Term, constant, variable, sum, difference, mask, shift, size, substitute}
 use Rattle.model.specs.Atom.{Atom, equal, unequal, less, at_most, substitute_atom}
 use Rattle.model.specs.Policy.{Policy}
 use Rattle.model.specs.Annotation.{Annotation, annotation_at}
 use Rattle.model.specs.Routine.{Routine}
 use Rattle.model.specs.declared.Refusal.{Refusal}
-use Rattle.model.specs.declared.Refusal.TheVariants.{Unannotated, PastLast, LargeTerm}
+use Rattle.model.specs.declared.Refusal.TheVariants.{PastLast, LargeTerm, LongBlock}
 use Rattle.model.specs.declared.Instruction.{Instruction}
 use Rattle.model.specs.declared.Instruction.TheVariants.{Set, Add, AddImmediate, Subtract, Load, Store, Jump, JumpLess, JumpEqual, Return, Mask, Shift}
 
@@ -111,73 +112,83 @@ module _ (s : Path) where
 
 -- ---- blocks
 
--- what an instruction of a block leads to: goals and the path with the instruction run, goals and no more, or a refusal
+-- what an instruction of a block leads to: goals, then each path with the instruction run, in order; or a refusal
 pub data Move : Type 0 where
-  goes : List Goal → Path → Move
-  ends : List Goal → Move
+  goes : List Goal → List Path → Move
   refused : Refusal → Move
 
 -- "A register's term has at most 255 nodes": 14, the index
 unfoldable pub small_enough : Bool → (index : ℕ) → Path → Move
-small_enough true index t = goes [] t
+small_enough true index t = goes [] (t ∷ [])
 small_enough false index t = refused (LargeTerm index)
 
 unfoldable pub assign : Path → (d : ℕ) → Term → Move
 assign s d t = small_enough (leb (size t) most_term_nodes) s.counter (onward (assigning s d t))
 
+-- "Branch: the taken edge first, its condition assumed for that edge only; then on, assuming the opposite"
+unfoldable pub branch : Path → (target : ℕ) → (taken opposite : Atom) → Move
+branch s target taken opposite = goes [] (assuming (path_to s target) taken ∷ assuming (onward s) opposite ∷ [])
+
+-- a return ends its path
+unfoldable pub move : Policy → (credit : Term) → Path → Instruction → Move
+move policy credit s (Set d i) = assign s d (constant i)
+move policy credit s (Add d a b) = assign s d (sum (term_of s a) (term_of s b))
+move policy credit s (AddImmediate d a i) = assign s d (sum (term_of s a) (constant i))
+move policy credit s (Subtract d a b) = assign s d (difference (term_of s a) (term_of s b))
+move policy credit s (Load d a i) = goes (goal_of s (readable (address_term s a i)) ∷ []) (onward (loading s d) ∷ [])
+move policy credit s (Store d a i) = goes (goal_of s (writable (address_term s a i)) ∷ []) (onward s ∷ [])
+move policy credit s (Jump i) = goes [] (path_to s i ∷ [])
+move policy credit s (JumpLess a b i) = branch s i (less (term_of s a) (term_of s b)) (at_most (term_of s b) (term_of s a))
+move policy credit s (JumpEqual a b i) = branch s i (equal (term_of s a) (term_of s b)) (unequal (term_of s a) (term_of s b))
+move policy credit s Return = goes (returning s credit policy.postcondition) []
+move policy credit s (Mask d a i) = assign s d (mask (term_of s a) (constant i))
+move policy credit s (Shift d a i) = assign s d (shift i (term_of s a))
+
+-- "23 when a block would evaluate its 4,097th instruction": a block may visit so many
+abbrev pub most_visits : ℕ
+most_visits = 4096
+
 module _ (policy : Policy) (routine : Routine) where
   module _ (credit : Term) where
-    -- the goals of a jump's target, on the path that has arrived there; check 12 has seen that it is annotated
-    unfoldable pub at_target : (s arrived : Path) → (after : List Goal → Move) → Option Annotation → Move
-    at_target s arrived after none = refused (Unannotated s.counter)
-    at_target s arrived after (some a) = after (arrival arrived credit a)
+    -- "Evaluation then follows the taken edge wholly, to each return or annotated index, before going back to the other edge with the
+    -- terms, variables, assumptions and k of the branch": the paths that are pending, in order. One that has come to an annotated
+    -- index arrives there and ends; another is walked, and then those after it.
+    unfoldable pub follow : (walks : Path → List Path → Trace) → List Path → Trace
+    follow walks [] = finish
+    follow walks (s ∷ pending) =
+        elim (annotation_at routine.annotations s.counter) [
+          | none ↦ walks s pending
+          | some a ↦ goals (arrival s credit a) (follow walks pending)
+        ]
 
-    unfoldable pub jump : (s arrived : Path) → (after : List Goal → Move) → Move
-    jump s arrived after = at_target s arrived after (annotation_at routine.annotations arrived.counter)
+    -- the goals of an instruction, then its paths before those that are pending
+    unfoldable pub tracing : (walks : Path → List Path → Trace) → (pending : List Path) → Move → Trace
+    tracing walks pending (goes gs paths) = goals gs (follow walks (paths ++ pending))
+    tracing walks pending (refused r) = refuse r
 
-    -- "Branch: the taken edge first, its condition assumed for that edge only; then on, assuming the opposite"
-    unfoldable pub branch : Path → (target : ℕ) → (taken opposite : Atom) → Move
-    branch s target taken opposite = jump s (assuming (path_to s target) taken) (λ gs. goes gs (assuming (onward s) opposite))
+    -- "13: evaluation passes the last instruction (n)"
+    unfoldable pub evaluating : (Instruction → Trace) → Option Instruction → Trace
+    evaluating evaluates none = refuse (PastLast (length routine.code))
+    evaluating evaluates (some instruction) = evaluates instruction
 
-    unfoldable pub move : Path → Instruction → Move
-    move s (Set d i) = assign s d (constant i)
-    move s (Add d a b) = assign s d (sum (term_of s a) (term_of s b))
-    move s (AddImmediate d a i) = assign s d (sum (term_of s a) (constant i))
-    move s (Subtract d a b) = assign s d (difference (term_of s a) (term_of s b))
-    move s (Load d a i) = goes (goal_of s (readable (address_term s a i)) ∷ []) (onward (loading s d))
-    move s (Store d a i) = goes (goal_of s (writable (address_term s a i)) ∷ []) (onward s)
-    move s (Jump i) = jump s (path_to s i) ends
-    move s (JumpLess a b i) = branch s i (less (term_of s a) (term_of s b)) (at_most (term_of s b) (term_of s a))
-    move s (JumpEqual a b i) = branch s i (equal (term_of s a) (term_of s b)) (unequal (term_of s a) (term_of s b))
-    move s Return = ends (returning s credit policy.postcondition)
-    move s (Mask d a i) = assign s d (mask (term_of s a) (constant i))
-    move s (Shift d a i) = assign s d (shift i (term_of s a))
-
-    -- a path that has gone on arrives at the annotation at its counter, and ends, or walks on
-    unfoldable pub landing : (Path → Trace) → Path → Option Annotation → Trace
-    landing walks t none = walks t
-    landing walks t (some a) = goals (arrival t credit a) finish
-
-    unfoldable pub tracing : (Path → Trace) → Move → Trace
-    tracing walks (refused r) = refuse r
-    tracing walks (ends gs) = goals gs finish
-    tracing walks (goes gs t) = goals gs (landing walks t (annotation_at routine.annotations t.counter))
-
-    -- The block from a path on, with so many instructions left up to n. "13: evaluation passes the last instruction (n)".
-    unfoldable pub walk : (left : ℕ) → Path → Trace
-    walk zero s = refuse (PastLast (length routine.code))
-    walk (suc left) s = tracing (λ t. walk left t) (move s (get_or routine.code s.counter Return))
+    -- The block from a path on, and then from those that are pending, with so many instructions yet to be evaluated, "repeats on other
+    -- paths counted": 23 "with the instruction's index as place, before that instruction's goals".
+    unfoldable pub walk : (visits : ℕ) → Path → (pending : List Path) → Trace
+    walk zero s pending = evaluating (λ instruction. refuse (LongBlock s.counter)) (get_elem? routine.code s.counter)
+    walk (suc visits) s pending =
+        evaluating (λ instruction. tracing (λ t rest. walk visits t rest) pending (move policy credit s instruction))
+        (get_elem? routine.code s.counter)
 
   -- "A block starts at instruction 0 (assumptions: the precondition; credit C: constant N)"; "the block at 0 does [stop],
   -- with k = 0, if 0 is annotated"
   unfoldable pub entry_block : Trace
   entry_block =
       let credit = constant policy.limit in
-      landing credit (walk credit (length routine.code)) (block_start 0 policy.precondition) (annotation_at routine.annotations 0)
+      follow credit (walk credit most_visits) (block_start 0 policy.precondition ∷ [])
 
   -- "then one at each annotation in order (assumptions: its atoms; C: its credit)"
   unfoldable pub annotation_block : Annotation → Trace
-  annotation_block a = walk a.credit (length routine.code - a.index) (block_start a.index a.atoms)
+  annotation_block a = walk a.credit most_visits (block_start a.index a.atoms) []
 
   unfoldable pub annotation_blocks : List Annotation → Trace
   annotation_blocks [] = finish

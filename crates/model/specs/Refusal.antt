@@ -1,7 +1,7 @@
 -- "Who can cause which answer": the number and the place of each refusal. Assumes nothing.
 use Rattle.std.specs.Prelude.{ℕ}
 use Rattle.model.specs.declared.Refusal.{Refusal}
-use Rattle.model.specs.declared.Refusal.TheVariants.{SmallWorkspace, WrongStart, PolicyLength, PolicySize, BadRegion, PolicyExpression, BadHeader, BadInstruction, BadTarget, BadAnnotation, AnnotationBytes, Unannotated, PastLast, LargeTerm, ProofExhausted, UnfitRule, DeepDerivation, BadArgument, ProofLeft}
+use Rattle.model.specs.declared.Refusal.TheVariants.{SmallWorkspace, WrongStart, PolicyLength, PolicySize, BadRegion, PolicyExpression, BadHeader, BadInstruction, BadTarget, BadAnnotation, AnnotationBytes, Unannotated, PastLast, LargeTerm, ProofExhausted, UnfitRule, DeepDerivation, BadArgument, ProofLeft, LongBlock}
 
 unfoldable pub number_of : Refusal → ℕ
 number_of SmallWorkspace = 1
@@ -23,6 +23,7 @@ number_of (UnfitRule p) = 16
 number_of (DeepDerivation p) = 17
 number_of (BadArgument p) = 18
 number_of (ProofLeft p) = 19
+number_of (LongBlock i) = 23
 
 unfoldable pub place_of : Refusal → ℕ
 place_of SmallWorkspace = 0
@@ -44,3 +45,4 @@ place_of (UnfitRule p) = p
 place_of (DeepDerivation p) = p
 place_of (BadArgument p) = p
 place_of (ProofLeft p) = p
+place_of (LongBlock i) = i

@@ -1,5 +1,5 @@
 -- A package that passes checks 7 to 12. Assumes nothing.
-use Rattle.std.specs.Prelude.{ℕ, ◌+◌, Bool, true, false, List, [], ◌∷◌, None, Some}
+use Rattle.std.specs.Prelude.{ℕ, ◌+◌, Bool, true, false, ◌||◌, List, [], ◌∷◌, None, Some, ltb}
 use Rattle.std.proofs.Math.Option.{none, some}
 use Rattle.model.specs.Result.{Result, Ok, ◌>>=◌, check}
 use Rattle.model.specs.Instruction.{target_of}
@@ -14,20 +14,21 @@ pub record Routine : Type 0 where
   pub annotations : List Annotation
   pub proof : ℕ
 
--- the instruction's jump, if it is one, goes to an annotated index
-unfoldable pub target_annotated : List Annotation → Instruction → Bool
-target_annotated annotations instruction =
-    elim (target_of instruction) [
-      | None ↦ true
-      | Some t ↦ elim (annotation_at annotations t) [ none ↦ false | some a ↦ true ]
-    ]
+-- an annotated index
+unfoldable pub annotated : List Annotation → (index : ℕ) → Bool
+annotated annotations index = elim (annotation_at annotations index) [ none ↦ false | some a ↦ true ]
 
--- "12: target without annotation (index of the first such jump)": the instructions from an index on
-unfoldable pub targets_annotated : List Annotation → (index : ℕ) → List Instruction → Result (Unit {0}) Refusal
-targets_annotated annotations index [] = Ok tt
-targets_annotated annotations index (instruction ∷ rest) = do
-  _ ← check (target_annotated annotations instruction) (Unannotated index)
-  targets_annotated annotations (index + 1) rest
+-- "A jump to a higher index may now go to an unannotated instruction": the jump of the instruction at an index, if it is one
+unfoldable pub target_allowed : List Annotation → (index : ℕ) → Instruction → Bool
+target_allowed annotations index instruction =
+    elim (target_of instruction) [ None ↦ true | Some t ↦ ltb index t || annotated annotations t ]
+
+-- "refusal 12 is for targets at or below the jump's own index" (index of the first such jump): the instructions from an index on
+unfoldable pub targets_allowed : List Annotation → (index : ℕ) → List Instruction → Result (Unit {0}) Refusal
+targets_allowed annotations index [] = Ok tt
+targets_allowed annotations index (instruction ∷ rest) = do
+  _ ← check (target_allowed annotations index instruction) (Unannotated index)
+  targets_allowed annotations (index + 1) rest
 
 -- "Checks run in number order"
 unfoldable pub read_routine : List ℕ → Result Routine Refusal
@@ -35,5 +36,5 @@ read_routine bytes = do
   h ← read_header bytes
   code ← read_code bytes h
   annotations ← read_annotations bytes h
-  _ ← targets_annotated annotations 0 code
+  _ ← targets_allowed annotations 0 code
   Ok (record { code = code; annotations = annotations; proof = proof_start h })

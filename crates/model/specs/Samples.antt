@@ -1,6 +1,6 @@
 -- The commissioning samples of document 01 that are marked (P), as one list, and samples of document 02, in further lists, that the definitions
 -- evaluate (proofs/Samples). Assumes nothing.
-use Rattle.std.specs.Prelude.{ℕ, ◌/◌, ◌%◌, ◌^◌, Bool, true, ◌&&◌, List, [], ◌∷◌, ◌++◌, length, replicate, eqb}
+use Rattle.std.specs.Prelude.{ℕ, ◌+◌, ◌/◌, ◌%◌, ◌^◌, Bool, true, ◌&&◌, List, [], ◌∷◌, ◌++◌, length, replicate, eqb}
 use Rattle.model.specs.Result.{◌>>=◌, check, found, map_err}
 use Rattle.model.specs.Refusal.{number_of, place_of}
 use Rattle.model.specs.Word.{add_w, sub_w, mask_w, shift_w, le16, le32}
@@ -12,9 +12,9 @@ use Rattle.model.specs.Policy.{some_region, all_writable, readable_word, writabl
 use Rattle.model.specs.Instruction.{provided, decode, target_of, target_inside}
 use Rattle.model.specs.Package.{read_header, instructions_from, read_code, code_of}
 use Rattle.model.specs.Annotation.{annotation_at, annotation_refusal, annotation_from, annotations_from, read_annotations}
-use Rattle.model.specs.Routine.{target_annotated, targets_annotated, read_routine}
+use Rattle.model.specs.Routine.{annotated, target_allowed, targets_allowed, read_routine}
 use Rattle.model.specs.Machine.{execute, step}
-use Rattle.model.specs.Goals.{goals, append, arrival, returning, small_enough, assign, at_target, jump, branch, move, landing, tracing, walk, entry_block, annotation_block, annotation_blocks, trace_of}
+use Rattle.model.specs.Goals.{goals, append, arrival, returning, small_enough, assign, branch, move, follow, tracing, evaluating, walk, entry_block, annotation_block, annotation_blocks, trace_of}
 use Rattle.model.specs.Linear.{constant_of, coefficient_of, variable_bound, variables_below, opaque_terms, indeterminates, same_coefficients, only_if, form_difference}
 use Rattle.model.specs.Rule.{atom_of, sides_of, readable_of, writable_of, pair_of, sum_of, difference_of, mask_of, shift_of, equal_pairs, congruent, region_premises, premises}
 use Rattle.model.specs.Derivation.{proof_refusal, rule_at, derive_all, derive}
@@ -31,7 +31,7 @@ abbrev pub Answer : Type 0
 Answer = ℕ × ℕ × ℕ
 
 unfoldable pub answer_of : Input → Answer
-unfolding ◌>>=◌ check found map_err number_of place_of add_w sub_w mask_w shift_w le16 le32 eval size closed eq_term substitute compares holds tag_of eq_atom substitute_atom byte_at half_at word_at node_of nodes_at expression_at atom_at atoms_at some_region all_writable readable_word writable_word writable_region region_fits policy_refusal sizes_of region_at regions_from read_policy provided decode target_of target_inside read_header instructions_from read_code code_of annotation_at annotation_refusal annotation_from annotations_from read_annotations target_annotated targets_annotated read_routine execute step goals append arrival returning small_enough assign at_target jump branch move landing tracing walk entry_block annotation_block annotation_blocks trace_of constant_of coefficient_of variable_bound variables_below opaque_terms indeterminates same_coefficients only_if form_difference atom_of sides_of readable_of writable_of pair_of sum_of difference_of mask_of shift_of equal_pairs congruent region_premises premises proof_refusal rule_at derive_all derive answered judge read_inputs check_of run_from read_start run_of
+unfolding ◌>>=◌ check found map_err number_of place_of add_w sub_w mask_w shift_w le16 le32 eval size closed eq_term substitute compares holds tag_of eq_atom substitute_atom byte_at half_at word_at node_of nodes_at expression_at atom_at atoms_at some_region all_writable readable_word writable_word writable_region region_fits policy_refusal sizes_of region_at regions_from read_policy provided decode target_of target_inside read_header instructions_from read_code code_of annotation_at annotation_refusal annotation_from annotations_from read_annotations annotated target_allowed targets_allowed read_routine execute step goals append arrival returning small_enough assign branch move follow tracing evaluating walk entry_block annotation_block annotation_blocks trace_of constant_of coefficient_of variable_bound variables_below opaque_terms indeterminates same_coefficients only_if form_difference atom_of sides_of readable_of writable_of pair_of sum_of difference_of mask_of shift_of equal_pairs congruent region_premises premises proof_refusal rule_at derive_all derive answered judge read_inputs check_of run_from read_start run_of
 answer_of (to_checker policy_bytes package_bytes) =
     let v = check_of 16384 policy_bytes package_bytes in
     (v.number, v.place, v.goals)
@@ -276,4 +276,58 @@ length_samples =
     ∷ sample (to_checker (policy_s 1) (header_only 512)) 7 12 0
     ∷ sample (to_checker (policy_s 1) (header_only 513)) 7 0 0
     ∷ sample (to_checker (policy_s 1) (header_only 0)) 7 0 0
+    ∷ []
+
+-- a branch that assumes what always holds, on either edge on to an index
+abbrev pub branch_c : (target : ℕ) → Coded
+branch_c = coded 8 0 0 1
+
+-- 0 := 0, and a return
+abbrev pub zero_c : Coded
+zero_c = coded 0 0 0 0 0
+
+abbrev pub return_c : Coded
+return_c = coded 9 0 0 0 0
+
+abbrev pub jump_c : (target : ℕ) → Coded
+jump_c = coded 6 0 0 0
+
+-- Five branches, each to the next instruction, then so many times 0 := 0 and a return, at an index: on 32 paths what follows the branches is evaluated,
+-- 31 + 32 * (times + 1) instructions in all.
+abbrev pub paths_32 : (index times : ℕ) → List Coded
+paths_32 index times =
+    branch_c (index + 1) ∷ branch_c (index + 2) ∷ branch_c (index + 3) ∷ branch_c (index + 4) ∷ branch_c (index + 5) ∷ replicate times zero_c ++ return_c ∷ []
+
+-- so many times 0 := 0 before them
+abbrev pub many_paths : (first : ℕ) → List Coded
+many_paths first = replicate first zero_c ++ paths_32 first 126
+
+-- A branch over a jump to the last instruction, which is no return: first the taken edge with its 32 returns, and then past the last instruction.
+abbrev pub past_many : (first : ℕ) → List Coded
+past_many first = branch_c 2 ∷ jump_c (first + 133) ∷ replicate first zero_c ++ paths_32 (first + 2) 125 ++ zero_c ∷ []
+
+-- so many returns whose credit is over, each by rule 3
+abbrev pub routine_of : List Coded → (returns : ℕ) → Input
+routine_of code returns = to_checker (policy_s 200) (packaged code 0 [] (replicate returns 0x03))
+
+-- S-5: jumps to a higher index
+abbrev pub jump_samples : List Sample
+jump_samples =
+    -- forward to an unannotated instruction; to the jump's own index; back; forward and back where nothing leads
+    sample (routine_of (jump_c 1 ∷ return_c ∷ []) 1) 0 0 1
+    ∷ sample (routine_of (jump_c 0 ∷ return_c ∷ []) 1) 12 0 0
+    ∷ sample (routine_of (zero_c ∷ jump_c 0 ∷ []) 1) 12 1 0
+    ∷ sample (routine_of (return_c ∷ jump_c 2 ∷ return_c ∷ []) 1) 0 0 1
+    ∷ sample (routine_of (return_c ∷ jump_c 0 ∷ []) 1) 12 1 0
+    -- the taken edge's return comes first (2 ≤ 2), then the other's (3 ≤ 2)
+    ∷ sample (to_checker (policy_s 2) (packaged (branch_c 3 ∷ zero_c ∷ return_c ∷ return_c ∷ []) 0 [] (0x02 ∷ 0x03 ∷ []))) 16 45 1
+    -- past the last instruction on the taken edge, and on the other after a return
+    ∷ sample (routine_of (branch_c 2 ∷ return_c ∷ zero_c ∷ []) 1) 13 3 0
+    ∷ sample (routine_of (branch_c 2 ∷ jump_c 3 ∷ return_c ∷ zero_c ∷ []) 1) 13 4 1
+    -- 4,096 instructions of a block, and 4,097
+    ∷ sample (routine_of (many_paths 1) 32) 0 0 32
+    ∷ sample (routine_of (many_paths 2) 32) 23 133 31
+    -- past the last instruction with 4,096 evaluated; the last one would be the 4,097th
+    ∷ sample (routine_of (past_many 30) 32) 13 164 32
+    ∷ sample (routine_of (past_many 31) 32) 23 164 32
     ∷ []

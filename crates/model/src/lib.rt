@@ -76,7 +76,8 @@ pub struct Header {
     pub proof: usize,
 }
 
-// Why an input is refused: a case for each number of document 01 from 1 to 19, in their order, with its place where that is not always 0.
+// Why an input is refused: a case for each number of document 01 from 1 to 19, in their order, and then of document 02, with its place where that is not
+// always 0.
 #[derive(Clone, Copy)]
 pub enum Refusal {
     // the workspace is under 16,384 words
@@ -99,7 +100,7 @@ pub enum Refusal {
     BadAnnotation(usize),
     // an expression of an annotation, or annotation bytes missing or spare
     AnnotationBytes(usize),
-    // target without annotation
+    // target at or below the jump's own index, without annotation
     Unannotated(usize),
     // evaluation passes the last instruction
     PastLast(usize),
@@ -112,6 +113,8 @@ pub enum Refusal {
     DeepDerivation(usize),
     BadArgument(usize),
     ProofLeft(usize),
+    // 23: a block's 4,097th instruction
+    LongBlock(usize),
 }
 
 // Why a field of a file cannot be read: its bytes are not all there, or what stands at a place is at fault.

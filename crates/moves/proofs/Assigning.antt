@@ -1,7 +1,7 @@
 -- Nodes put above a path's top, and assignments of them. Assumes nothing.
 use mathlib.Core.Path.{◌≡◌, refl, sym, ap, ap₂, subst, ◌∙◌}
 use mathlib.Core.Bool.{Bool, true, false}
-use mathlib.Core.List.{List, []}
+use mathlib.Core.List.{List, [], ◌∷◌}
 use Prim.Native.Nat.{ℕ, ◌+◌, ◌<◌, ◌≤◌}
 use native.Mathlib.Numerals.{add-one}
 use native.Mathlib.Omega.{arith}
@@ -114,12 +114,12 @@ module _ {ws us : List ℕ} {path : Path} {d count node : ℕ} {t : Term} (g : R
   advanced : Advanced us path after
   advanced = record {
     path_in = path_stepped (path_written b.path_in below b.node_in) (path.counter + 1) (omega (arith, g.run));
-    counter = refl;
     steps = refl;
     above = omega arith;
     nodes = omega arith;
     more = omega arith;
     variables = omega arith;
+    listed = omega arith;
     assumptions = omega arith;
   }
 
@@ -127,9 +127,9 @@ module _ {ws us : List ℕ} {path : Path} {d count node : ℕ} {t : Term} (g : R
   unfolding assigned_as assign small_enough
   by_size true e = record {
     moves = λ bytes credit p h. record {
-      judged = λ policy routine _. subst (λ m. MoveJudged bytes policy routine credit us m p (Ok (On after p))) (ap (goes []) (sym means) ∙ sym (rw (e, assign))) (move_on judges_none);
+      judged = λ policy routine _. subst (λ m. MoveJudged bytes policy routine credit us m p (Ok (On after p))) (ap (λ s. goes [] (s ∷ [])) (sym means) ∙ sym (rw (e, assign))) (move_on judges_none);
       kept = kept;
-      leads = (advanced, h);
+      leads = (advanced, refl, h);
     };
   }
   by_size false e = record {

@@ -1,12 +1,11 @@
 -- What running one instruction of a path owes: any instruction, and an assignment. Assumes nothing.
-use Rattle.std.specs.Prelude.{◌≡◌, Bool, true, false, List, ℕ, ◌+◌, ◌*◌, ◌≤◌, length}
+use Rattle.std.specs.Prelude.{◌≡◌, Bool, true, false, List, ◌∷◌, ℕ, ◌+◌, ◌*◌, ◌≤◌, length}
 use Rattle.model.specs.Result.{Result, Ok, Err}
 use Rattle.model.specs.Term.{Term}
 use Rattle.model.specs.Policy.{Policy}
 use Rattle.model.specs.Package.{most_instructions}
-use Rattle.model.specs.Annotation.{annotation_at}
 use Rattle.model.specs.Routine.{Routine}
-use Rattle.model.specs.Goals.{Path as ModelPath, Trace, append, Move, assign, landing, tracing}
+use Rattle.model.specs.Goals.{Path as ModelPath, Trace, append, Move, assign, follow, tracing}
 use Rattle.model.specs.Verdict.{least_workspace, refusing, judge}
 use Rattle.model.specs.declared.Verdict.{Verdict}
 use Rattle.model.specs.declared.Refusal.{Refusal}
@@ -44,34 +43,35 @@ pub record Built (ws us : List ℕ) (path : Path) (count node : ℕ) (t : Term) 
 -- the path `after` has run one instruction more than `path`
 pub record Advanced (us : List ℕ) (path after : Path) : Type 0 where
   pub path_in : PathIn us after
-  pub counter : after.counter ≡ path.counter + 1
   pub steps : after.steps ≡ path.steps + 1
   pub above : path.top ≤ after.top
   pub nodes : after.top ≤ path.top + instruction_nodes
   pub more : path.variables ≤ after.variables
   pub variables : after.variables ≤ path.variables + 1
+  pub listed : path.assumptions ≤ after.assumptions
   pub assumptions : after.assumptions ≤ path.assumptions + 1
 
+-- it goes on at the next index
 abbrev pub Leads : (us bytes : List ℕ) (path : Path) → Result Moved Refused → Type 0
-Leads us bytes path (Ok (On after q)) = Advanced us path after × Reached bytes q
+Leads us bytes path (Ok (On after q)) = Advanced us path after × (after.counter ≡ path.counter + 1) × Reached bytes q
 Leads us bytes path (Ok (Ended q)) = Reached bytes q
 Leads us bytes path (Err x) = Unit {0}
 
+-- the pending paths are followed, and another trace after them
+abbrev pub following : Policy → Routine → (credit : Term) (walks : ModelPath → List ModelPath → Trace) (paths : List ModelPath) (rest : Trace) → Trace
+following policy routine credit walks paths rest = append (follow policy routine credit walks paths) rest
+
 module _ (bytes : List ℕ) (policy : Policy) (routine : Routine) (credit : Term) where
-  -- what follows on a path that goes on
-  abbrev pub landed : (ModelPath → Trace) → ModelPath → Trace
-  landed walks t = landing policy routine credit walks t (annotation_at routine.annotations t.counter)
+  -- the checker's answer after an instruction, where `walks` follows on its path and on those that are pending, and `rest` after them
+  abbrev pub verdict_moved : (us : List ℕ) → Result Moved Refused → (walks : ModelPath → List ModelPath → Trace) (pending : List ModelPath) (rest : Trace) → Verdict
+  verdict_moved us (Ok (On after q)) walks pending rest = judge bytes policy (following policy routine credit walks (path_of us after ∷ pending) rest) q.at q.goals
+  verdict_moved us (Ok (Ended q)) walks pending rest = judge bytes policy (following policy routine credit walks pending rest) q.at q.goals
+  verdict_moved us (Err x) walks pending rest = refusing x.refusal x.goals
 
-  -- the checker's answer after an instruction, where `walks` follows on a path that goes on in the words us, and `rest` after that
-  abbrev pub verdict_moved : (us : List ℕ) → Result Moved Refused → (walks : ModelPath → Trace) (rest : Trace) → Verdict
-  verdict_moved us (Ok (On after q)) walks rest = judge bytes policy (append (landed walks (path_of us after)) rest) q.at q.goals
-  verdict_moved us (Ok (Ended q)) walks rest = judge bytes policy rest q.at q.goals
-  verdict_moved us (Err x) walks rest = refusing x.refusal x.goals
-
-  -- r is what comes of the move m, whatever trace follows
+  -- r is what comes of the move m, whatever paths are pending and whatever trace follows
   pub record MoveJudged (us : List ℕ) (m : Move) (p : Progress) (r : Result Moved Refused) : Type 0 where
-    pub says : (walks : ModelPath → Trace) (rest : Trace)
-        → judge bytes policy (append (tracing policy routine credit walks m) rest) p.at p.goals ≡ verdict_moved us r walks rest
+    pub says : (walks : ModelPath → List ModelPath → Trace) (pending : List ModelPath) (rest : Trace)
+        → judge bytes policy (append (tracing policy routine credit walks pending m) rest) p.at p.goals ≡ verdict_moved us r walks pending rest
 
 -- what an instruction with the move `what` owes, where policy and routine are as `Where` says
 pub record Moves (ws us bytes : List ℕ) (Where : Policy → Routine → Type 0) (credit : Term) (what : Policy → Routine → Move) (path : Path) (p : Progress) (r : Result Moved Refused) : Type 0 where

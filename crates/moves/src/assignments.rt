@@ -32,7 +32,7 @@ pub fn set(ws: &mut [u32], path: Path, d: u8, i: u32) -> Result<Path, Refusal>
     ensures { Assigns ws.old ws.new path d (constant i) result }
 {
     let top = path.top;
-    terms::put_constant(ws, top, i);
+    terms::keep_constant(ws, top, i);
     assign(ws, path.raised(top + 1), d, top)
 }
 
@@ -50,7 +50,7 @@ pub fn combine(
     ensures { Assigns ws.old ws.new path d (operation_of operation (term_of (path_of ws.old path) a) (term_of (path_of ws.old path) b)) result }
 {
     let top = path.top;
-    terms::put_pair(ws, top, operation, path.node(a), path.node(b));
+    terms::keep_pair(ws, top, operation, path.node(a), path.node(b));
     assign(ws, path.raised(top + 1), d, top)
 }
 
@@ -63,6 +63,17 @@ pub fn put_with(ws: &mut [u32], path: Path, operation: Operation, a: u8, i: u32)
     let top = path.top;
     terms::put_constant(ws, top, i);
     terms::put_pair(ws, top + 1, operation, path.node(a), top);
+}
+
+// The same for a register's term.
+fn keep_with(ws: &mut [u32], path: Path, operation: Operation, a: u8, i: u32)
+    requires register { a < register_count }
+    requires room_for { RoomFor ws.old path 1 }
+    ensures { Built ws.old ws.new path 2 (path.top + 1) (operation_of operation (term_of (path_of ws.old path) a) (constant i)) }
+{
+    let top = path.top;
+    terms::keep_constant(ws, top, i);
+    terms::keep_pair(ws, top + 1, operation, path.node(a), top);
 }
 
 // d := a + i, or d := a masked with i
@@ -79,7 +90,7 @@ pub fn combine_immediate(
     ensures { Assigns ws.old ws.new path d (operation_of operation (term_of (path_of ws.old path) a) (constant i)) result }
 {
     let top = path.top;
-    put_with(ws, path, operation, a, i);
+    keep_with(ws, path, operation, a, i);
     assign(ws, path.raised(top + 2), d, top + 1)
 }
 
@@ -91,6 +102,6 @@ pub fn shift(ws: &mut [u32], path: Path, d: u8, a: u8, i: u32) -> Result<Path, R
     ensures { Assigns ws.old ws.new path d (shift_of i (term_of (path_of ws.old path) a)) result }
 {
     let top = path.top;
-    terms::put_shift(ws, top, i, path.node(a));
+    terms::keep_shift(ws, top, i, path.node(a));
     assign(ws, path.raised(top + 1), d, top)
 }

@@ -14,7 +14,7 @@ pub struct Refused {
     pub goals: usize,
 }
 
-// Each refusal's number in document 01, and its place; 0 where there is no place.
+// Each refusal's number in documents 01 and 02, and its place; 0 where there is no place.
 #[tactic(auto, unfolding(model::specs::Refusal::number_of, model::specs::Refusal::place_of))]
 fn answer_of(refusal: Refusal) -> (u32, usize)
     ensures { (result.0 ≡ number_of refusal) × (result.1 ≡ place_of refusal) }
@@ -39,10 +39,11 @@ fn answer_of(refusal: Refusal) -> (u32, usize)
         Refusal::DeepDerivation(at) => (17, at),
         Refusal::BadArgument(at) => (18, at),
         Refusal::ProofLeft(at) => (19, at),
+        Refusal::LongBlock(at) => (23, at),
     }
 }
 
-// A refusal's number in document 01.
+// A refusal's number in documents 01 and 02.
 pub fn number(refusal: Refusal) -> u32
     ensures { result ≡ number_of refusal }
 {

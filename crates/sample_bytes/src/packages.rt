@@ -13,13 +13,26 @@ pub enum Package {
     // so many times 1 := 1 + 1, then a return; the proof is rule 2
     Doublings(u32),
     // so many times 1 := 1 + 1, then 1 := 1 >> by, then a return; the proof is rule 2
-    Shifted { doublings: u32, by: u32 },
+    Shifted {
+        doublings: u32,
+        by: u32,
+    },
     // a return, and a proof by rule 10, so many times rule 4, and rule 1
     Deep(u32),
     // a return, and a proof by rule 2, so often that the package is so many bytes long
     Padded(u32),
     // 512 instructions on one path: so many loads, then branches, and at the end a return or one branch more
-    Longest { loads: u32, returns: bool },
+    Longest {
+        loads: u32,
+        returns: bool,
+    },
+    // so many assignments, then branches, each to the next instruction, then assignments and a return; for each of so many goals rule 3
+    Branches {
+        first: u32,
+        branches: u32,
+        last: u32,
+        goals: u32,
+    },
 }
 
 // The header of a package with no annotations.
@@ -69,6 +82,24 @@ fn returning(writer: &mut Writer, proof: u32)
     writer.word(0);
 }
 
+// So many assignments, then branches that lead to the next instruction on either edge, then assignments and a return; so many goals by rule 3.
+fn branching(writer: &mut Writer, first: u32, branches: u32, last: u32, goals: u32)
+    requires { (first < 1000) × ((branches < 1000) × (last < 1000)) }
+    ensures { Same writer.old.out writer.new.out }
+{
+    header(writer, first + branches + last + 1, goals);
+    writer.repeat(0, 4 * first);
+    writer.all(&[8, 0, 0, 1], branches);
+    writer.repeat(0, 4 * last);
+    writer.word(9);
+    writer.repeat(0, 4 * first);
+    for branch in 0..branches {
+        writer.word(first + branch + 1);
+    }
+    writer.repeat(0, 4 * last + 4);
+    writer.repeat(3, goals);
+}
+
 impl Package {
     // The package's bytes, at the start of the buffer. Counts are taken modulo 1000, loads modulo 512.
     pub fn write(self, out: &mut [u8]) -> &[u8]
@@ -89,6 +120,18 @@ impl Package {
             Package::Longest { loads, returns } => {
                 longest::longest(&mut writer, loads % 512, returns);
             }
+            Package::Branches {
+                first,
+                branches,
+                last,
+                goals,
+            } => branching(
+                &mut writer,
+                first % 1000,
+                branches % 1000,
+                last % 1000,
+                goals,
+            ),
             Package::Padded(size) => {
                 if 20 <= size {
                     returning(&mut writer, size - 20);

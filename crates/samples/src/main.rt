@@ -17,6 +17,7 @@ fn main(rt: HostRuntime) -> io::Result<()> {
     };
     edges::instruction_counts(&mut desk)?;
     term_edges::longest_paths(&mut desk)?;
+    term_edges::many_paths(&mut desk)?;
     policy_edges::memory_sizes(&mut desk)?;
     policy_edges::region_past_memory(&mut desk)?;
     term_edges::depths(&mut desk)?;

@@ -4,6 +4,7 @@
 ghost use Rattle.std.specs.Prelude.{◌≡◌};
 ghost use Rattle.policy.specs.Policy.{listed};
 ghost use Rattle.claims.specs.Regions.{RegionList};
+ghost use Rattle.targets.specs.Targets.{AllAhead};
 ghost use Rattle.setting.specs.Fixed.{PolicyFits, AnnotationsFit};
 
 use annotations::reading::Annotated;
@@ -12,7 +13,8 @@ use header::package::Package;
 use model::Region;
 use policy::Policy;
 
-// What arrivals go by: the package, where its annotations stand, which have passed checks 10 and 11, and the policy's regions.
+// What arrivals go by: the package, which has passed check 12, where its annotations stand, which have passed checks 10 and 11, and the policy's
+// regions.
 #[derive(Clone, Copy)]
 pub struct Tables<'a> {
     pub routine: Package<'a>,
@@ -20,6 +22,7 @@ pub struct Tables<'a> {
     pub regions: &'a [Region],
     pub ghost annotations_fit: { AnnotationsFit routine.bytes.now routine.header annotations.now },
     pub ghost regions_fit: { RegionList regions.now },
+    pub ghost targets_ahead: { AllAhead routine.bytes.now routine.header annotations.now },
 }
 
 impl<'a> Tables<'a> {

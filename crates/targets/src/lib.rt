@@ -4,21 +4,20 @@
 pub mod search;
 
 ghost use Rattle.std.specs.Prelude.{◌<◌};
-ghost use Rattle.targets.specs.Targets.{TargetListed, TargetMet, TargetsMet};
+ghost use Rattle.targets.specs.Targets.{TargetAllowed, TargetMet, TargetsMet};
 
 use annotations::reading::Annotated;
 use header::package::Package;
 use model::{Instruction, Refusal};
 use routine::instructions;
 
-// The instruction's jump, if it is one, goes to an instruction that has an annotation.
-fn target_listed(annotations: &[Annotated], instruction: Instruction) -> bool
-    ensures { TargetListed annotations.now instruction result }
+// The instruction's jump, if it is one, goes to a higher index than its own, or to an instruction that has an annotation.
+fn target_allowed(annotations: &[Annotated], index: usize, instruction: Instruction) -> bool
+    ensures { TargetAllowed annotations.now index instruction result }
 {
-    decoding::target_of(instruction).is_none_or(|target| search::position(
-        annotations,
-        target as usize,
-    ).is_some())
+    decoding::target_of(instruction).is_none_or(|target| {
+        index < (target as usize) || search::position(annotations, target as usize).is_some()
+    })
 }
 
 // Check 12 of the instruction at an index; its code has been checked.
@@ -27,7 +26,7 @@ fn check_target(routine: &Package, annotations: &[Annotated], index: usize) -> R
     ensures { TargetMet routine.now.bytes.now routine.now.header annotations.now index result }
 {
     let instruction = instructions::instruction(routine, index)?;
-    if !target_listed(annotations, instruction) {
+    if !target_allowed(annotations, index, instruction) {
         return Err(Refusal::Unannotated(index));
     }
     Ok(())

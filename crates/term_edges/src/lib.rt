@@ -28,6 +28,24 @@ pub fn longest_paths<R: Print>(desk: &mut Desk<R>) -> io::Result<()> {
     Ok(())
 }
 
+// 4,096 instructions evaluated in one block, on 32 paths, and 4,097; and 511 branches, whose taken edges lead on from one to the next.
+pub fn many_paths<R: Print>(desk: &mut Desk<R>) -> io::Result<()> {
+    for (name, first, branches, last, goals) in [
+        ("4096 evaluated", 1, 5, 126, 32),
+        ("4097 evaluated", 2, 5, 126, 32),
+        ("511 taken edges", 0, 511, 0, 4000),
+    ] {
+        let package = Package::Branches {
+            first,
+            branches,
+            last,
+            goals,
+        };
+        desk.show(name, Policy::small(512), package)?;
+    }
+    Ok(())
+}
+
 // Derivations 32 and 33 levels deep.
 pub fn depths<R: Print>(desk: &mut Desk<R>) -> io::Result<()> {
     desk.show("depth 32", Policy::small(1), Package::Deep(30))?;

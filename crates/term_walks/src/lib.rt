@@ -4,10 +4,17 @@
 ghost use Rattle.std.specs.Prelude.{◌≡◌, suc, IfSome};
 ghost use Rattle.model.specs.Term.{eval, eq_term};
 ghost use Rattle.nodes.specs.Table.{term_at, Shaped, Formed};
-ghost use Rattle.term_walks.specs.Closed.{closed_value};
+ghost use Rattle.term_walks.specs.Closed.{values_of, closed_values};
 ghost use Rattle.term_walks.specs.Reckoned.{Right};
 
 use nodes::Node;
+
+// The values of two terms.
+#[derive(Clone, Copy)]
+pub struct Values {
+    pub left: u32,
+    pub right: u32,
+}
 
 // Whether nodes i and j have the same term, node by node: at once where the same node stands for both, or where their facts differ; so that
 // their tags are the same afterwards. What stands in place of values, but for constants, is not looked at.
@@ -89,34 +96,56 @@ fn reduced(ws: &[u32], i: usize, kept: &mut [Option<u32>]) -> u32
 // A place for each node of the table.
 const PLACES: usize = 4096;
 
-// The value of a large term, every variable being 0: no node is walked twice. The places are not to lie on the stack of a caller that calls itself.
+// The values of two terms, where at least one is large, every variable being 0: no node is walked twice. The places are not to lie on the stack
+// of a caller that calls itself.
 #[inline(never)]
-fn large(ws: &[u32], i: usize) -> u32
-    requires { Formed ws.now (suc i) }
-    ensures { result ≡ eval (λ v. 0) (term_at ws.now i) }
+fn large(ws: &[u32], i: usize, j: usize) -> Values
+    requires first_formed { Formed ws.now (suc i) }
+    requires second_formed { Formed ws.now (suc j) }
+    ensures { result ≡ values_of (term_at ws.now i) (term_at ws.now j) }
 {
-    reduced(ws, i, &mut [None; PLACES])
+    let kept = &mut [None; PLACES];
+    let left = reduced(ws, i, kept);
+    let right = reduced(ws, j, kept);
+    Values { left, right }
 }
 
-// The value of node i's term, every variable being 0. A small term is walked as a tree.
-fn value(ws: &[u32], i: usize) -> u32
+// Whether node i holds its term's value, or the term is small.
+fn easy(ws: &[u32], i: usize) -> bool
     requires { Formed ws.now (suc i) }
-    ensures { result ≡ eval (λ v. 0) (term_at ws.now i) }
 {
-    if nodes::small(ws, i) {
-        reduced(ws, i, &mut [])
-    } else {
-        large(ws, i)
+    nodes::holds_value(ws, i) | nodes::small(ws, i)
+}
+
+// The values of two nodes' terms, every variable being 0. Small terms are walked as trees.
+#[inline(never)]
+fn both(ws: &[u32], i: usize, j: usize) -> Values
+    requires first_formed { Formed ws.now (suc i) }
+    requires second_formed { Formed ws.now (suc j) }
+    ensures { result ≡ values_of (term_at ws.now i) (term_at ws.now j) }
+{
+    if !(easy(ws, i) & easy(ws, j)) {
+        return large(ws, i, j);
     }
+    let left = reduced(ws, i, &mut []);
+    let right = reduced(ws, j, &mut []);
+    Values { left, right }
 }
 
-// The value of node i's term, where it has no variable.
-pub fn evaluate(ws: &[u32], i: usize) -> Option<u32>
-    requires { Formed ws.now (suc i) }
-    ensures { result ≡ closed_value (term_at ws.now i) }
+// The values of two nodes' terms, where neither has a variable.
+pub fn evaluate(ws: &[u32], i: usize, j: usize) -> Option<Values>
+    requires first_formed { Formed ws.now (suc i) }
+    requires second_formed { Formed ws.now (suc j) }
+    ensures { result ≡ closed_values (term_at ws.now i) (term_at ws.now j) }
 {
-    if !nodes::closed(ws, i) {
+    if !(nodes::closed(ws, i) & nodes::closed(ws, j)) {
         return None;
     }
-    held(ws, i).or_else(|| Some(value(ws, i)))
+    let Some(left) = held(ws, i) else {
+        return Some(both(ws, i, j));
+    };
+    let Some(right) = held(ws, j) else {
+        return Some(both(ws, i, j));
+    };
+    Some(Values { left, right })
 }

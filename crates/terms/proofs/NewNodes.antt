@@ -6,18 +6,19 @@ use mathlib.Core.List.{List}
 use Prim.Native.Nat.{ℕ, suc, ◌+◌, ◌*◌, ◌/◌, ◌%◌, ◌^◌, ◌<◌, ◌≤◌}
 use native.Mathlib.Omega.{arith}
 use lib.Dec.{eqb}
+use lib.ListN.{length}
 use borrow.Author.Tests.{eqb-true}
 use Rattle.model.specs.Term.{Term, shift, eval, size, closed}
 use Rattle.model.specs.Expression.{most_count}
 use Rattle.model.proofs.Terms.{and_left, and_right}
-use Rattle.workspace.specs.Layout.{most_variables, hint_base}
-use Rattle.nodes.specs.Table.{low, high, parts_at, value_at, marks_at, operation_tag, linear, operation_of, node_of_tag, view_of, build, term_at, term_of, plain, pair_value, capped, facts_from, facts_of, holds_of, value_of, Formed, Put, Fits, Marked, Twinned}
+use Rattle.workspace.specs.Layout.{most_variables, hint_base, stored}
+use Rattle.nodes.specs.Table.{low, high, place, parts_at, value_at, marks_at, operation_tag, linear, operation_of, node_of_tag, view_of, build, term_at, term_of, plain, pair_value, capped, facts_from, facts_of, holds_of, value_of, Formed, Space, Put, Fits, Marked, Twinned}
 use Rattle.nodes.specs.declared.Operation.{Operation}
 use Rattle.nodes.specs.declared.Operation.TheVariants.{Sum, Difference, Mask}
 use Rattle.nodes.specs.declared.Node.TheVariants.{Pair, Shift}
-use Rattle.workspace.proofs.Frames.{same_refl}
+use Rattle.workspace.proofs.Frames.{same_refl, same_trans}
 use Rattle.nodes.proofs.Facts.{capped_sum, capped_suc, closed_bit, plain_bit, size_in, kept_value, no_value, pair_eval}
-use Rattle.nodes.proofs.Table.{value_here}
+use Rattle.nodes.proofs.Table.{formed_less, marks_here, node_order, node_built, value_here, put_node}
 
 -- ---- a term's facts and value, by those of its parts
 facts_sized : (tag : ℕ) (c p : Bool) (m n : ℕ) → capped m ≡ capped n → facts_from tag c p m ≡ facts_from tag c p n
@@ -208,3 +209,34 @@ module _ {ws : List ℕ} {top parts value facts : ℕ} where
       let z : low (marks_at ws n) ≡ facts = eqb-true (low (marks_at ws n)) facts (and_right (a && b) c (sym e)) in
       let t : marks_at ws n % 8 ≡ facts % 8 = omega arith in
       record { kept = same_refl 0 hint_base ws; found = inr (h, rw (t, x, y)) }
+
+-- ---- a node that is kept: it is put again with its own words, and then stands for the same term
+module _ {ws : List ℕ} {top parts value marks facts : ℕ} (f : Formed ws (suc top)) (p : parts ≡ parts_at ws top) (v : value ≡ value_at ws top) (m : marks ≡ marks_at ws top) (e : (facts ≡ low marks) × (facts < 65536)) where
+  own_node : node_of_tag (facts % 8) parts value ≡ view_of ws top
+  unfolding view_of
+  own_node =
+      let t : facts % 8 ≡ marks_at ws top % 8 = omega arith in
+      rw (t, p, v)
+
+  own_term : term_of ws parts value facts ≡ term_at ws top
+  own_term = sym (node_built f.shaped own_node)
+
+  own_facts : facts ≡ low (marks_at ws top)
+  own_facts = e.0 ∙ ap low m
+
+  own_fits : Fits ws top parts value facts
+  own_fits = record {
+    order = node_order f.shaped own_node;
+    facts_are = own_facts ∙ (marks_here f.shaped).facts ∙ ap facts_of (sym own_term);
+    value_is = v ∙ value_here f ∙ ap value_of (sym own_term);
+  }
+
+  own_space : Space ws top 1
+  own_space = record { words = f.shaped.words; fits = omega (arith, f.shaped.fits) }
+
+  pub kept_node : {vs us : List ℕ} {first : ℕ} → Twinned ws vs top parts value facts first → length vs ≡ length ws → us ≡ stored vs (place top) parts value (facts + 65536 * first) → Put ws us top (term_at ws top)
+  kept_node {us = us} t l s = subst (Put ws us top) own_term (put_node (formed_less top (omega arith) f) own_space own_fits e.1 t l s)
+
+-- a node that is put and then kept
+pub put_kept : {ws us vs : List ℕ} {top : ℕ} {t : Term} → Put ws us top t → Put us vs top (term_at us top) → Put ws vs top t
+put_kept p q = record { kept = same_trans p.kept q.kept; formed = q.formed; is = q.is ∙ p.is }

@@ -250,6 +250,24 @@ module _ {us vs : List ℕ} {n m : ℕ} {r : Bool} (a : Settled us vs n m r) whe
       go ws t g true c false f o = later ws t g c (b.differ ws (less ws t) (middle ws t g) f)
       go ws t g true c true f o = clash o (rw (c, f))
 
+-- the nodes from m on are settled, and then those before them
+settled_both : {us ms vs : List ℕ} {n m : ℕ} {q : Bool} → m ≤ n → Settled us ms n m true → Settled ms vs m 0 q → Settled us vs n 0 q
+settled_both {us} {ms} {vs} {n} {m} {q} h a b = record {
+  area = same_trans a.area b.area;
+  loaded = λ ws t g. b.loaded ws (formed_less m h t) (a.loaded ws t g);
+  agree = λ ws t g o x p. b.agree ws (formed_less m h t) (a.loaded ws t g) o x p ∙ a.agree ws t g refl x p;
+  differ = λ ws t g o. earlier ws t g (b.differ ws (formed_less m h t) (a.loaded ws t g) o);
+}
+  where
+    earlier : (ws : List ℕ) (t : Formed ws n) (g : Loaded ws us n 0) → Unsettled ws ms m → Unsettled ws us n
+    earlier ws t g u = record { term = u.term; is_opaque = u.is_opaque; left = λ z. u.left (a.agree ws t g refl u.term u.is_opaque ∙ z) }
+
+pub settleable_rest : {us ms : List ℕ} {n m l : ℕ} → m ≤ n → l ≡ m → Settled us ms n m true → Settleable us n → Settleable ms l
+settleable_rest {ms = ms} {m = m} h e a y = subst (Settleable ms) (sym e) (record { table = y.table; formed = formed_less m h y.formed; loaded = a.loaded y.table y.formed y.loaded })
+
+pub settled_rest : {us ms vs : List ℕ} {n m l : ℕ} {q : Bool} → m ≤ n → l ≡ m → Settled us ms n m true → Settled ms vs l 0 q → Settled us vs n 0 q
+settled_rest {ms = ms} {vs} {q = q} h e a b = settled_both h a (subst (λ x. Settled ms vs x 0 q) e b)
+
 -- ---- both forms reckoned by the table
 pub both_plain : (s t : Term) {p q : Bool} → p ≡ plain s → q ≡ plain t → (p && q) ≡ true → (plain s ≡ true) × (plain t ≡ true)
 both_plain s t {p} {q} d e h = (sym d ∙ and_left p q h, sym e ∙ and_right p q h)

@@ -3,14 +3,17 @@
 // stays, and nodes with the same term are brought together at the end.
 #![tactic(auto)]
 
+pub mod guesses;
+
 ghost use Rattle.std.specs.Prelude.{◌≡◌, suc, ◌*◌, ◌%◌, ◌^◌, ◌≤◌, ◌<◌, max, length};
 ghost use Rattle.workspace.specs.Layout.{constant_word, hint_base, Same};
 ghost use Rattle.nodes.specs.Table.{place, valued_at, term_at, Shaped};
 ghost use Rattle.forms.specs.Area.{Comparable};
 ghost use Rattle.weights.specs.Weights.{given_to, weighs_at, Weighable, Passed, Partner, Settleable, Settled, Spread};
 
+use guesses::Guesses;
 use nodes::{Node, Operation};
-use workspace::{CONSTANT, NOTES};
+use workspace::CONSTANT;
 
 // Adds w times the linear form of node k's term: to the constant where the node holds a value, else to the node's weight.
 fn give(ws: &mut [u32], k: usize, w: u32)
@@ -89,34 +92,6 @@ fn weighs(ws: &[u32], k: usize) -> bool
     (nodes::value(ws, k) != 0) & !nodes::holds_value(ws, k)
 }
 
-// What is noted of node k: a node that may have the same term.
-fn noted(ws: &[u32], k: usize) -> usize
-    requires { Shaped ws.now (suc k) }
-    ensures { result < 65536 }
-{
-    let two = ws[NOTES + k / 2];
-    if k % 2 == 0 {
-        nodes::low(two) as usize
-    } else {
-        nodes::high(two)
-    }
-}
-
-// Notes that node k may have the term of node j.
-fn note(ws: &mut [u32], k: usize, j: usize)
-    requires shaped { Shaped ws.old (suc k) }
-    requires before { j < k }
-    ensures { Same 0 hint_base ws.old ws.new }
-{
-    let at = NOTES + k / 2;
-    let two = ws[at];
-    if k % 2 == 0 {
-        ws[at] = two / 65536 * 65536 + (j as u32);
-    } else {
-        ws[at] = two % 65536 + 65536 * (j as u32);
-    }
-}
-
 // The last node before k that has a weight and the term of node k, if there is one. Equal terms need not know of each other by twins.
 fn searched(ws: &[u32], k: usize) -> Option<usize>
     requires { Shaped ws.now (suc k) }
@@ -125,23 +100,23 @@ fn searched(ws: &[u32], k: usize) -> Option<usize>
     (0..k).rfind(|&j| weighs(ws, j) && term_walks::equal(ws, j, k))
 }
 
-// A node before k that has the term of node k, the noted one if it has it; none, if none with a weight has it. What is found is noted, so that
-// each node is searched for once, however often forms are compared.
-fn partner(ws: &mut [u32], k: usize) -> Option<usize>
-    requires { Shaped ws.old (suc k) }
-    ensures { Partner ws.old ws.new k result }
+// A node before k that has the term of node k, the guessed one if it has it; none, if none with a weight has it.
+fn partner(ws: &[u32], k: usize, guesses: &mut Option<Guesses>) -> Option<usize>
+    requires { Shaped ws.now (suc k) }
+    ensures { Partner ws.now ws.now k result }
 {
-    let known = noted(ws, k);
+    if guesses.is_none() {
+        *guesses = Some(Guesses::up_to(ws, k));
+    }
+    let known = guesses.map_or(k, |made| made.guess(ws, k));
     if known < k && term_walks::equal(ws, known, k) {
         return Some(known);
     }
-    let found = searched(ws, k)?;
-    note(ws, k, found);
-    Some(found)
+    searched(ws, k)
 }
 
 // Adds the weight of node `last` to that of an earlier node with its term; false, if there is none. Its own weight is zero afterwards.
-fn hand_over(ws: &mut [u32], last: usize) -> bool
+fn hand_over(ws: &mut [u32], last: usize, guesses: &mut Option<Guesses>) -> bool
     requires { Settleable ws.old (suc last) }
     ensures { Settled ws.old ws.new (suc last) last result }
 {
@@ -149,7 +124,7 @@ fn hand_over(ws: &mut [u32], last: usize) -> bool
         return true;
     }
     let w = nodes::value(ws, last);
-    let earlier = partner(ws, last);
+    let earlier = partner(ws, last, guesses);
     nodes::set_value(ws, last, 0);
     match earlier {
         Some(j) => {
@@ -160,14 +135,29 @@ fn hand_over(ws: &mut [u32], last: usize) -> bool
     }
 }
 
-// Whether the weights that are left come to zero for each term, from the last of the first nodes on; they are all zero afterwards.
+// Whether the weights of the first nodes come to zero for each term, from the last node on; they are all zero afterwards.
+#[inline(never)]
+fn settle_weights(ws: &mut [u32], nodes: usize) -> bool
+    requires { Settleable ws.old nodes }
+    ensures { Settled ws.old ws.new nodes 0 result }
+{
+    let mut guesses = None;
+    let mut zero = true;
+    for k in (0..nodes).rev() {
+        zero &= hand_over(ws, k, &mut guesses);
+    }
+    zero
+}
+
+// Whether the weights that are left come to zero for each term; they are all zero afterwards.
 pub fn settle(ws: &mut [u32], nodes: usize) -> bool
     requires { Settleable ws.old nodes }
     ensures { Settled ws.old ws.new nodes 0 result }
 {
-    let mut zero = true;
     for k in (0..nodes).rev() {
-        zero &= hand_over(ws, k);
+        if weighs(ws, k) {
+            return settle_weights(ws, k + 1);
+        }
     }
-    zero
+    true
 }

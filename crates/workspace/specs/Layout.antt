@@ -32,8 +32,8 @@ most_assumptions = most_atoms + path_room
 abbrev pub table_base : ℕ
 table_base = assumption_base + most_assumptions
 
--- at the end: hints, of which nothing is promised. Notes, two a word: for each node one that may have the same term; and words that say where
--- a node with certain words may be found
+-- at the end: hints, of which nothing is promised: notes, two a word, and words, which say where a node with certain words may be found; what
+-- notes say of the nodes of registers' terms is not overwritten while these are in the table
 abbrev pub note_words : ℕ
 note_words = 1968
 

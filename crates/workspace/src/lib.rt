@@ -29,8 +29,10 @@ pub const HINT_COUNT: usize = 1024;
 
 pub const HINTS: usize = LEAST_WORKSPACE - HINT_COUNT;
 
-// hint_base: where the notes of nodes begin.
-pub const NOTES: usize = HINTS - 1968;
+// How many notes there are, two a word, and hint_base, where they begin.
+pub const NOTE_COUNT: usize = 3936;
+
+pub const NOTES: usize = HINTS - NOTE_COUNT / 2;
 
 // Makes every word zero.
 pub fn clear(words: &mut [u32])

@@ -10,6 +10,7 @@ use std::hint::black_box;
 use std::time::Duration;
 
 use generator::assemble::{package, Instruction, Policy, Region, READ, WRITE};
+use generator::paths::path_cases;
 use generator::random::Random;
 use generator::routine::{field_sample, plain_sample, protected_table, table_sample, Sample};
 use generator::worst::worst_cases;
@@ -87,6 +88,10 @@ fn checks() -> Vec<Check> {
     for worst in worst_cases() {
         let kind = if worst.number == 0 { "accepted" } else { "refused" };
         add(&format!("{kind}: {}", worst.name), &worst.policy, &worst.package);
+    }
+    for nested in path_cases().iter().filter(|case| case.name.ends_with("nested branches")) {
+        let kind = if nested.answer[0] == 0 { "accepted" } else { "refused" };
+        add(&format!("{kind}: {}", nested.name), &nested.policy, &nested.package);
     }
     let returns = vec![Instruction::Return; 256];
     let long = package(&returns, 0, &[], &vec![2; 60_000]);

@@ -4,7 +4,9 @@ use std::collections::VecDeque;
 
 use crate::assemble::{package, Instruction, Policy};
 use crate::damage::{damaged_package, damaged_policy, every_change, every_repaired_change};
+use crate::damage::{redirected, reordered};
 use crate::hostile::hostile_cases;
+use crate::paths::{path_case, path_cases};
 use crate::random::Random;
 use crate::regions::table_case;
 use crate::routine::{long_sample, sample};
@@ -57,6 +59,9 @@ impl Cases {
     /// The cases of a seed.
     pub fn new(seed: u64) -> Self {
         let mut queue: VecDeque<_> = hostile_cases().into();
+        for limit in path_cases() {
+            queue.push_back((limit.name, limit.policy, limit.package));
+        }
         for worst in worst_cases() {
             queue.push_back((worst.name.to_string(), worst.policy, worst.package));
         }
@@ -92,8 +97,15 @@ impl Cases {
             let damaged = damaged_policy(&policy, random);
             self.queue.push_back((name("damaged policy"), damaged, bytes.clone()));
         }
+        for _ in 0..3 {
+            let reordered = reordered(&sample, random);
+            self.queue.push_back((name("derivations in another order"), policy.clone(), reordered));
+            let redirected = redirected(&sample, random);
+            self.queue.push_back((name("a jump elsewhere"), policy.clone(), redirected));
+        }
         self.queue.extend((0..24).map(|_| shape_case(random)));
         self.queue.extend((0..12).map(|_| table_case(random)));
+        self.queue.extend((0..12).map(|_| path_case(random)));
         self.queue.push_back((name("noise"), policy.clone(), noise(random)));
         self.queue.push_back((name("code"), policy.clone(), random_code(&sample.policy, random)));
         if bytes.len() <= SHORT && number.is_multiple_of(16) {
@@ -137,17 +149,20 @@ fn noise(random: &mut Random) -> Vec<u8> {
     package(&[Instruction::Return], 0, &[], &bytes)
 }
 
-/// Random instructions, which the runner takes though the checker does not.
+/// Random instructions, most of whose jumps are forward: the runner takes them, the checker seldom.
 fn random_code(policy: &Policy, random: &mut Random) -> Vec<u8> {
     let count = 1 + random.below(20);
     let code: Vec<Instruction> = (0..count)
-        .map(|_| {
+        .map(|index| {
             let [d, a, b] = std::array::from_fn(|_| random.below(4) as u8);
             let i = match random.below(3) {
                 0 => random.word(),
                 _ => random.below(policy.memory as usize + 1) as u32,
             };
-            let target = random.below(count) as u32;
+            let target = match random.below(3) {
+                0 => random.below(count) as u32,
+                _ => (index + 1 + random.below(count - index)).min(count - 1) as u32,
+            };
             match random.below(14) {
                 0 | 1 => Instruction::Constant { d, i },
                 2 => Instruction::Add { d, a, b },
@@ -164,7 +179,8 @@ fn random_code(policy: &Policy, random: &mut Random) -> Vec<u8> {
             }
         })
         .collect();
-    package(&code, 0, &[], &[])
+    let proof = vec![3; random.below(40)];
+    package(&code, 0, &[], &proof)
 }
 
 /// Starts of a run: with sizes that fit and some that do not, and with budgets of 0, 1, the exact

@@ -1,6 +1,8 @@
 //! Damage: packages and policies that are nearly right.
 
+use crate::assemble::Routine;
 use crate::random::Random;
+use crate::routine::Sample;
 
 /// The proof's first byte and the annotation section's, as the header of a package has it; nothing
 /// if the header does not fit the package.
@@ -154,6 +156,46 @@ pub fn damaged_package(package: &[u8], random: &mut Random) -> Vec<u8> {
         _ => return damaged_bytes(package, random),
     }
     bytes
+}
+
+/// The package of a sample with some derivations behind others that come after them.
+pub fn reordered(sample: &Sample, random: &mut Random) -> Vec<u8> {
+    let Sample { routine, proof, starts, .. } = sample;
+    let mut cuts: Vec<usize> = (0..3).map(|_| random.below(starts.len() + 1)).collect();
+    if random.chance(1, 2) {
+        // a few derivations, as an edge of a small decision has
+        cuts[1] = cuts[0] + 1 + random.below(4);
+        cuts[2] = cuts[1] + 1 + random.below(4);
+    }
+    cuts.sort_unstable();
+    let place = |cut: usize| starts.get(cut).copied().unwrap_or(proof.len());
+    let [first, middle, last] = [place(cuts[0]), place(cuts[1]), place(cuts[2])];
+    let mut proof = proof.clone();
+    proof[first..last].rotate_left(middle - first);
+    routine.encode(&proof)
+}
+
+/// The package of a sample with a jump aimed at its own index, a lower one, or any; or with an
+/// annotation less.
+pub fn redirected(sample: &Sample, random: &mut Random) -> Vec<u8> {
+    let Routine { mut code, mut annotations } = sample.routine.clone();
+    let count = code.len();
+    let jumps: Vec<usize> =
+        (0..count).filter(|&index| code[index].target_mut().is_some()).collect();
+    if random.chance(1, 4) && !annotations.is_empty() {
+        annotations.remove(random.below(annotations.len()));
+    } else if !jumps.is_empty() {
+        let index = *random.pick(&jumps);
+        let target = match random.below(6) {
+            0 => index,
+            1 => random.below(index + 1),
+            2 => (index + 1).min(count - 1),
+            3 | 4 => (index + 1 + random.below(8)).min(count - 1),
+            _ => random.below(count + 1),
+        };
+        *code[index].target_mut().expect("a jump") = target as u32;
+    }
+    Routine { code, annotations }.encode(&sample.proof)
 }
 
 /// A policy with random damage.

@@ -31,20 +31,44 @@ pub struct Task {
     pub variables: u16,
 }
 
-/// The goals of a routine, or nothing if a path runs past the last instruction, a jump has no
-/// annotation at its target, or a register's term has more than 255 nodes.
+/// The most instructions that a block may evaluate, on all its paths.
+pub const MAX_EVALUATED: usize = 4_096;
+
+/// The goals of a routine, or nothing if a path runs past the last instruction, a jump to its own
+/// index or a lower one has no annotation at its target, a register's term has more than 255 nodes,
+/// or a block evaluates too many instructions.
 pub fn goals(policy: &Policy, routine: &Routine) -> Option<Vec<Task>> {
-    let mut tasks = Vec::new();
-    let entry = Path::new(routine, policy, 0, constant(policy.limit), &policy.precondition);
-    entry.evaluate(true, &mut tasks)?;
-    for annotation in &routine.annotations {
-        let credit = Rc::clone(&annotation.credit);
-        let path = Path::new(routine, policy, annotation.index, credit, &annotation.atoms);
-        path.evaluate(false, &mut tasks)?;
-    }
-    Some(tasks)
+    let mut block = Block { tasks: Vec::new(), evaluated: 0 };
+    evaluate_blocks(policy, routine, &mut block)?;
+    Some(block.tasks)
 }
 
+/// The goals of a routine, or those that come before what evaluation refuses.
+pub fn goals_so_far(policy: &Policy, routine: &Routine) -> Vec<Task> {
+    let mut block = Block { tasks: Vec::new(), evaluated: 0 };
+    let _ = evaluate_blocks(policy, routine, &mut block);
+    block.tasks
+}
+
+fn evaluate_blocks(policy: &Policy, routine: &Routine, block: &mut Block) -> Option<()> {
+    let entry = Path::new(routine, policy, 0, constant(policy.limit), &policy.precondition);
+    entry.evaluate(true, block)?;
+    for annotation in &routine.annotations {
+        block.evaluated = 0;
+        let credit = Rc::clone(&annotation.credit);
+        let path = Path::new(routine, policy, annotation.index, credit, &annotation.atoms);
+        path.evaluate(false, block)?;
+    }
+    Some(())
+}
+
+/// The goals so far, and the instructions that the block has evaluated.
+struct Block {
+    tasks: Vec<Task>,
+    evaluated: usize,
+}
+
+#[derive(Clone)]
 struct Path<'a> {
     routine: &'a Routine,
     policy: &'a Policy,
@@ -76,16 +100,20 @@ impl<'a> Path<'a> {
         }
     }
 
-    fn evaluate(mut self, stop_at_once: bool, tasks: &mut Vec<Task>) -> Option<()> {
+    fn evaluate(mut self, stop_at_once: bool, block: &mut Block) -> Option<()> {
         let routine = self.routine;
         loop {
             if self.run > 0 || stop_at_once {
                 if let Some(number) = self.annotation_at(self.counter) {
-                    self.arrive(number, tasks);
+                    self.arrive(number, &mut block.tasks);
                     return Some(());
                 }
             }
             let instruction = *routine.code.get(self.counter)?;
+            block.evaluated += 1;
+            if block.evaluated > MAX_EVALUATED {
+                return None;
+            }
             self.run += 1;
             match instruction {
                 Instruction::Constant { d, i } => self.set(d, constant(i))?,
@@ -98,36 +126,35 @@ impl<'a> Path<'a> {
                 }
                 Instruction::Load { d, a, i } => {
                     let address = sum(self.get(a), &constant(i));
-                    tasks.push(self.task(Goal::Readable(address), Origin::Access));
+                    block.tasks.push(self.task(Goal::Readable(address), Origin::Access));
                     self.set(d, variable(self.variables))?;
                     self.variables += 1;
                 }
                 Instruction::Store { d: _, a, i } => {
                     let address = sum(self.get(a), &constant(i));
-                    tasks.push(self.task(Goal::Writable(address), Origin::Access));
+                    block.tasks.push(self.task(Goal::Writable(address), Origin::Access));
                 }
                 Instruction::Jump { target } => {
-                    let number = self.annotation_at(target as usize)?;
-                    self.arrive(number, tasks);
-                    return Some(());
+                    self.counter = self.landing(target)?;
+                    continue;
                 }
                 Instruction::JumpIfLess { a, b, target } => {
                     let (a, b) = (self.get(a), self.get(b));
                     let (condition, opposite) = (Atom::less(a, b), Atom::at_most(b, a));
-                    self.branch(condition, opposite, target, tasks)?;
+                    self.branch(condition, opposite, target, block)?;
                 }
                 Instruction::JumpIfEqual { a, b, target } => {
                     let (a, b) = (self.get(a), self.get(b));
                     let (condition, opposite) = (Atom::equal(a, b), Atom::unequal(a, b));
-                    self.branch(condition, opposite, target, tasks)?;
+                    self.branch(condition, opposite, target, block)?;
                 }
                 Instruction::Return => {
                     for (number, atom) in self.policy.postcondition.iter().enumerate() {
                         let goal = Goal::Atom(self.current(atom));
-                        tasks.push(self.task(goal, Origin::Postcondition(number)));
+                        block.tasks.push(self.task(goal, Origin::Postcondition(number)));
                     }
                     let goal = Goal::Atom(Atom::at_most(&constant(self.run), &self.credit));
-                    tasks.push(self.task(goal, Origin::Credit));
+                    block.tasks.push(self.task(goal, Origin::Credit));
                     return Some(());
                 }
                 Instruction::Mask { d, a, i } => self.set(d, mask(self.get(a), &constant(i)))?,
@@ -142,19 +169,25 @@ impl<'a> Path<'a> {
         condition: Atom,
         opposite: Atom,
         target: u32,
-        tasks: &mut Vec<Task>,
+        block: &mut Block,
     ) -> Option<()> {
-        let number = self.annotation_at(target as usize)?;
+        let counter = self.landing(target)?;
         let before = Rc::clone(&self.assumptions);
         let with = |atom| {
             let mut assumptions = before.to_vec();
             assumptions.push(atom);
             Rc::new(assumptions)
         };
-        self.assumptions = with(condition);
-        self.arrive(number, tasks);
+        let taken = Path { counter, assumptions: with(condition), ..self.clone() };
+        taken.evaluate(true, block)?;
         self.assumptions = with(opposite);
         Some(())
+    }
+
+    /// The target of the jump at the counter, if it is higher or annotated.
+    fn landing(&self, target: u32) -> Option<usize> {
+        let target = target as usize;
+        (target > self.counter || self.annotation_at(target).is_some()).then_some(target)
     }
 
     fn arrive(&self, number: usize, tasks: &mut Vec<Task>) {

@@ -13,6 +13,7 @@ pub mod damage;
 pub mod derivation;
 pub mod goals;
 pub mod hostile;
+pub mod paths;
 pub mod random;
 pub mod regions;
 pub mod routine;

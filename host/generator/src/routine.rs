@@ -1,9 +1,12 @@
 //! Random policies and routines with annotations and, for most, a proof.
 //!
 //! A routine is put together from segments: arithmetic, loads and stores, skipped parts, loops
-//! with falling credit, branches that are never taken, early returns. Along the way the builder
-//! keeps facts that should hold of the registers; annotations take some of them. What cannot be
-//! derived is taken out of the annotations and the postcondition until all the rest can.
+//! with falling credit, branches that are never taken, early returns, decisions whose ways join with
+//! an annotation or without. Along the way the builder keeps facts that should hold of the registers;
+//! annotations take some of them. What cannot be derived is taken out of the annotations and the
+//! postcondition until all the rest can.
+
+mod decisions;
 
 use std::rc::Rc;
 
@@ -19,6 +22,7 @@ const REGISTERS: u8 = 16;
 const MAX_CODE: usize = 480;
 const MAX_NOTES: usize = 60;
 const MAX_FACTS: usize = 24;
+const MAX_GOALS: usize = 2_000;
 
 /// A policy and a package.
 #[derive(Clone, Debug)]
@@ -29,6 +33,8 @@ pub struct Sample {
     pub routine: Routine,
     /// The proof.
     pub proof: Vec<u8>,
+    /// Where each goal's derivation starts in the proof.
+    pub starts: Vec<usize>,
     /// Whether a derivation of every goal was found, so that the checker should accept.
     pub proved: bool,
 }
@@ -54,41 +60,39 @@ struct Kind {
     tables: bool,
     /// Words past a register that differ from each other.
     distances: bool,
+    /// Decisions whose ways join without an annotation.
+    joins: bool,
     /// Assignments before each segment.
     stretch: usize,
 }
 
+const PLAIN: Kind =
+    Kind { fields: false, tables: false, distances: false, joins: false, stretch: 0 };
+
 /// A random sample of about so many segments.
 pub fn sample(random: &mut Random, segments: usize) -> Sample {
-    sample_with(random, segments, Kind { fields: true, tables: true, distances: true, stretch: 0 })
+    let kind = Kind { fields: true, tables: true, distances: true, joins: true, stretch: 0 };
+    sample_with(random, segments, kind)
 }
 
 /// A random sample of about so many segments, with masks and shifts and with tables.
 pub fn table_sample(random: &mut Random, segments: usize) -> Sample {
-    sample_with(random, segments, Kind { fields: true, tables: true, distances: false, stretch: 0 })
+    sample_with(random, segments, Kind { fields: true, tables: true, ..PLAIN })
 }
 
 /// A random sample of about so many segments, with masks and shifts and with any regions.
 pub fn field_sample(random: &mut Random, segments: usize) -> Sample {
-    sample_with(
-        random,
-        segments,
-        Kind { fields: true, tables: false, distances: false, stretch: 0 },
-    )
+    sample_with(random, segments, Kind { fields: true, ..PLAIN })
 }
 
 /// A random sample of about so many segments, without masks and shifts and with any regions.
 pub fn plain_sample(random: &mut Random, segments: usize) -> Sample {
-    sample_with(
-        random,
-        segments,
-        Kind { fields: false, tables: false, distances: false, stretch: 0 },
-    )
+    sample_with(random, segments, PLAIN)
 }
 
 /// A random sample of up to some hundreds of instructions, most of them assignments.
 pub fn long_sample(random: &mut Random) -> Sample {
-    let kind = Kind { fields: true, tables: true, distances: true, stretch: 12 };
+    let kind = Kind { fields: true, tables: true, distances: true, joins: true, stretch: 12 };
     let segments = 20 + random.below(20);
     sample_with(random, segments, kind)
 }
@@ -98,10 +102,15 @@ fn sample_with(random: &mut Random, segments: usize, kind: Kind) -> Sample {
         let mut builder = Builder::new(random, kind);
         builder.segments(segments, 2);
         let (mut policy, mut routine) = builder.finish();
-        if let Some((proof, proved)) = prove(&mut policy, &mut routine, random) {
+        if kind.joins && random.chance(1, 8) {
+            decisions::scatter(&mut routine, random);
+        }
+        if let Some(Proof { bytes: proof, starts, proved }) =
+            prove(&mut policy, &mut routine, random)
+        {
             let length = 12 + 8 * routine.code.len() + 4_000 + proof.len();
             if length <= 65_536 {
-                return Sample { policy, routine, proof, proved };
+                return Sample { policy, routine, proof, starts, proved };
             }
         }
     }
@@ -142,19 +151,22 @@ pub fn protected_table(rows: u32) -> Sample {
     ];
     let mut routine = Routine { code, annotations };
     let found = prove(&mut policy, &mut routine, &mut Random::new(1));
-    let (proof, proved) = found.expect("evaluation refuses nothing");
-    Sample { policy, routine, proof, proved }
+    let Proof { bytes: proof, starts, proved } = found.expect("evaluation refuses nothing");
+    Sample { policy, routine, proof, starts, proved }
+}
+
+/// A proof, where each goal's derivation starts in it, and whether all goals are derived.
+struct Proof {
+    bytes: Vec<u8>,
+    starts: Vec<usize>,
+    proved: bool,
 }
 
 /// Searches a proof and takes out the atoms that have none. Nothing if evaluation refuses the
-/// routine; the second answer is whether all goals are derived.
-fn prove(
-    policy: &mut Policy,
-    routine: &mut Routine,
-    random: &mut Random,
-) -> Option<(Vec<u8>, bool)> {
+/// routine or has very many goals.
+fn prove(policy: &mut Policy, routine: &mut Routine, random: &mut Random) -> Option<Proof> {
     loop {
-        let tasks = goals(policy, routine)?;
+        let tasks = goals(policy, routine).filter(|tasks| tasks.len() <= MAX_GOALS)?;
         let found = search_all(&tasks, &policy.regions, random);
         let mut atoms: Vec<(Option<usize>, usize)> = Vec::new();
         for (task, derivation) in tasks.iter().zip(&found) {
@@ -167,18 +179,18 @@ fn prove(
             }
         }
         if atoms.is_empty() || random.chance(1, 40) {
-            let mut proof = Vec::new();
-            let mut proved = true;
+            let mut proof = Proof { bytes: Vec::new(), starts: Vec::new(), proved: true };
             for found in found {
-                proved &= matches!(found, Found::Derived(_));
+                proof.starts.push(proof.bytes.len());
+                proof.proved &= matches!(found, Found::Derived(_));
                 match found {
                     Found::Derived(derivation) | Found::Misnamed(derivation) => {
-                        proof.extend(derivation.bytes);
+                        proof.bytes.extend(derivation.bytes);
                     }
-                    Found::Nothing => proof.push(random.below(29) as u8),
+                    Found::Nothing => proof.bytes.push(random.below(29) as u8),
                 }
             }
-            return Some((proof, proved));
+            return Some(proof);
         }
         atoms.sort_unstable();
         atoms.dedup();
@@ -227,6 +239,21 @@ struct Builder<'a> {
     needed: Vec<Atom>,
     spent: u32,
     share: Option<Share>,
+    /// How many paths of a block come here, about.
+    paths: usize,
+    /// How many paths may come to a join without an annotation.
+    most_paths: usize,
+    /// Branches to the return at the end.
+    exits: Vec<usize>,
+}
+
+/// What is known on a way to a join.
+#[derive(Clone, Debug)]
+struct Way {
+    facts: Vec<Atom>,
+    ranges: Vec<Option<(u32, u32)>>,
+    spent: u32,
+    paths: usize,
 }
 
 fn register(number: u8) -> Rc<Term> {
@@ -259,7 +286,13 @@ impl<'a> Builder<'a> {
             needed: Vec::new(),
             spent: 0,
             share: None,
+            paths: 1,
+            most_paths: 0,
+            exits: Vec::new(),
         };
+        if kind.joins {
+            builder.most_paths = *builder.random.pick(&[2, 4, 4, 8, 8, 16]);
+        }
         builder.set_precondition();
         builder
     }
@@ -301,6 +334,9 @@ impl<'a> Builder<'a> {
         candidates.extend(self.kind.fields.then(|| self.field_fact()));
         self.random.shuffle(&mut candidates);
         postcondition.extend(candidates.into_iter().take(self.random.below(6)));
+        for jump in std::mem::take(&mut self.exits) {
+            self.aim(jump, self.code.len());
+        }
         self.emit(Instruction::Return);
         let slack = match self.random.below(4) {
             0 => u32::MAX - self.spent,
@@ -612,6 +648,7 @@ impl<'a> Builder<'a> {
             spent: self.spent,
             share: self.share,
         });
+        self.paths = 1;
         self.learn(atoms);
     }
 
@@ -664,6 +701,9 @@ impl<'a> Builder<'a> {
     }
 
     fn segment(&mut self, depth: u32) {
+        if self.kind.joins && self.random.chance(1, 4) {
+            return self.decision(depth);
+        }
         match self.random.below(if depth == 0 { 8 } else { 16 }) {
             0..=2 => {
                 for _ in 0..self.random.within(1..=4) {
@@ -698,19 +738,28 @@ impl<'a> Builder<'a> {
         *self.code[jump].target_mut().expect("a jump") = target as u32;
     }
 
-    /// An annotated index where a jump from `known` arrives too.
-    fn join(&mut self, jump: usize, known: &[Atom], ranges: &[Option<(u32, u32)>]) {
-        self.facts.retain(|fact| known.contains(fact));
-        for (range, other) in self.ranges.iter_mut().zip(ranges) {
+    fn way(&self) -> Way {
+        let (facts, ranges) = (self.facts.clone(), self.ranges.clone());
+        Way { facts, ranges, spent: self.spent, paths: self.paths }
+    }
+
+    /// An index where a jump by another way arrives too, annotated or not.
+    fn join(&mut self, jump: usize, way: &Way) {
+        self.facts.retain(|fact| way.facts.contains(fact));
+        for (range, other) in self.ranges.iter_mut().zip(&way.ranges) {
             *range = match (*range, *other) {
                 (Some((low, high)), Some((least, most))) => Some((low.min(least), high.max(most))),
                 _ => None,
             };
         }
-        if self.notes.last().is_some_and(|note| note.index == self.code.len()) {
-            self.arithmetic_or_constant();
+        self.spent = self.spent.max(way.spent);
+        self.paths += way.paths;
+        if !self.joins_freely() {
+            if self.notes.last().is_some_and(|note| note.index == self.code.len()) {
+                self.arithmetic_or_constant();
+            }
+            self.note();
         }
-        self.note();
         self.aim(jump, self.code.len());
     }
 
@@ -723,11 +772,11 @@ impl<'a> Builder<'a> {
 
     /// A part that is run or not.
     fn skip(&mut self, depth: u32) {
-        let (known, ranges) = (self.facts.clone(), self.ranges.clone());
         let jump = self.branch();
+        let way = self.way();
         let count = self.random.below(4);
         self.segments(count, depth - 1);
-        self.join(jump, &known, &ranges);
+        self.join(jump, &way);
     }
 
     /// Loads an index, and uses it where it is in range.
@@ -741,13 +790,13 @@ impl<'a> Builder<'a> {
         }
         let Region { length, .. } = *self.random.pick(&self.regions.clone());
         self.emit(Instruction::Constant { d: bound, i: length - 1 });
-        let (known, ranges) = (self.facts.clone(), self.ranges.clone());
         let jump = self.code.len();
         self.emit(Instruction::JumpIfLess { a: bound, b: index, target: 0 });
+        let way = self.way();
         self.ranges[usize::from(index)] = Some((0, length - 1));
         self.access();
         self.access();
-        self.join(jump, &known, &ranges);
+        self.join(jump, &way);
     }
 
     /// A branch whose condition is false, to an annotation that is there already.
@@ -779,14 +828,11 @@ impl<'a> Builder<'a> {
     }
 
     fn early_return(&mut self) {
-        let (known, ranges) = (self.facts.clone(), self.ranges.clone());
         let jump = self.branch();
-        let spent = self.spent;
+        let way = self.way();
         self.emit(Instruction::Return);
-        self.spent = spent;
-        self.facts = known.clone();
-        self.ranges.clone_from(&ranges);
-        self.join(jump, &known, &ranges);
+        self.take(Way { paths: 0, ..way.clone() });
+        self.join(jump, &way);
     }
 
     /// A loop that counts a register up to a bound or down to zero. Each round takes at most
@@ -864,15 +910,14 @@ impl<'a> Builder<'a> {
         });
         self.needed = body_needed;
         while self.spent - before + 5 < times && self.random.chance(7, 8) {
-            let (code, notes, spent) = (self.code.len(), self.notes.len(), self.spent);
-            let (facts, ranges) = (self.facts.clone(), self.ranges.clone());
+            let (code, notes) = (self.code.len(), self.notes.len());
+            let (way, exits) = (self.way(), self.exits.len());
             self.segment(depth.min(1) - 1);
             if self.spent - before + 3 > times {
                 self.code.truncate(code);
                 self.notes.truncate(notes);
-                self.spent = spent;
-                self.facts = facts;
-                self.ranges = ranges;
+                self.exits.truncate(exits);
+                self.take(way);
             }
         }
         self.needed = needed_of_header;

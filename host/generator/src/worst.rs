@@ -1,5 +1,7 @@
 //! Large packages, each as costly for one rule as its 65,536 bytes allow.
 
+mod ways;
+
 use std::rc::Rc;
 
 use crate::assemble::{Annotation, Instruction, Policy, Region, Routine, READ, WRITE};
@@ -113,8 +115,9 @@ fn doubled(d: u8) -> Vec<Instruction> {
 }
 
 /// Sets each of some registers to the same term of 255 nodes over register 0 whose linear form is
-/// zero. The proved checker knows a constant again by a hint, which another constant takes here
-/// between two of them; so it does not know that they are the same but by comparing them.
+/// zero. A hint, by which the proved checker knows a constant again, is taken here by another
+/// constant between two of them; so it knows that they are the same by notes, or not but by
+/// comparing them.
 fn built_apart(registers: &[u8]) -> Vec<Instruction> {
     let mut code = Vec::new();
     for &d in registers {
@@ -203,6 +206,7 @@ pub fn worst_cases() -> Vec<Worst> {
         late_refusal(),
     ];
     cases.extend(deep_chains());
+    cases.extend(ways::cases());
     cases
 }
 

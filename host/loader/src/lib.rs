@@ -104,7 +104,8 @@ mod interface {
 /// Judges `package` under `policy`.
 ///
 /// A workspace of fewer than [`WORKSPACE_WORDS`] words is refused and left as it was; any other
-/// is left all zero.
+/// is left all zero. The call takes up to 414 KB of stack, for a path of 512 branches; its thread
+/// should have 512 KB.
 pub fn check(workspace: &mut [u32], policy: &[u8], package: &[u8]) -> Verdict {
     let mut answer = [0; 3];
     // SAFETY: each pointer comes with the length of its slice, the answer has three words, and

@@ -1,4 +1,4 @@
-//! Symbolic evaluation: the goals of each block in order (checks 13 and 14), and the whole
+//! Symbolic evaluation: the goals of each block in order (checks 13, 14 and 23), and the whole
 //! judgement.
 
 use crate::derivation::{Atom, Goal, Prover};
@@ -9,8 +9,9 @@ use crate::term::{Term, Terms};
 use crate::Refusal;
 
 const MAX_REGISTER_NODES: u32 = 255;
+const MAX_EVALUATED: u32 = 4_096;
 
-/// Makes checks 3 to 19 and counts the goals derived.
+/// Makes checks 3 to 19 and 23 and counts the goals derived.
 pub fn judge(policy: &[u8], package: &[u8], goals: &mut usize) -> Result<(), Refusal> {
     let policy = Policy::read(policy)?;
     let layout = Layout::read(package)?;
@@ -24,6 +25,7 @@ pub fn judge(policy: &[u8], package: &[u8], goals: &mut usize) -> Result<(), Ref
         annotations: &annotations,
         prover: Prover::new(policy.regions(), package, layout.proof),
         registers: Terms::registers(),
+        evaluated: 0,
         goals,
     };
     evaluation.entry_block()?;
@@ -42,6 +44,8 @@ struct Evaluation<'a> {
     annotations: &'a Annotations,
     prover: Prover<'a>,
     registers: [Term; 16],
+    /// The instructions evaluated in the block, on all its paths.
+    evaluated: u32,
     goals: &'a mut usize,
 }
 
@@ -77,70 +81,93 @@ impl Evaluation<'_> {
         }
     }
 
-    /// Evaluates from `start` on, up to a jump, a return or the next annotated index.
+    /// Evaluates a block: all paths from its start to a return or an annotated index.
     fn block(&mut self, start: usize, credit: Term) -> Result<(), Refusal> {
-        let code = self.code;
-        for (run, index) in (0..).zip(start..) {
+        self.evaluated = 0;
+        self.path(start, credit, 0)
+    }
+
+    /// Evaluates from `index` on with `run` instructions run, and the taken edges of branches on
+    /// the way.
+    fn path(&mut self, mut index: usize, credit: Term, mut run: u32) -> Result<(), Refusal> {
+        let (code, annotations) = (self.code, self.annotations);
+        loop {
             if run > 0 {
-                if let Some(annotation) = self.annotations.at(index) {
+                if let Some(annotation) = annotations.at(index) {
                     return self.arrive(annotation, credit, run);
                 }
             }
             let &instruction = code.get(index).ok_or(Refusal::new(13, code.len()))?;
+            if self.evaluated == MAX_EVALUATED {
+                return Err(Refusal::new(23, index));
+            }
+            self.evaluated += 1;
+            run += 1;
             match instruction {
-                Instruction::Constant { d, i } => {
-                    let term = self.prover.terms.constant(i);
-                    self.set(d, term);
+                Instruction::Jump { target } => {
+                    index = target as usize;
+                    continue;
                 }
-                Instruction::Add { d, a, b } => {
-                    let term = self.prover.terms.pair(Operation::Sum, self.get(a), self.get(b));
-                    self.set_counted(d, term, index)?;
-                }
-                Instruction::AddConstant { d, a, i } => {
-                    let term = self.with_constant(Operation::Sum, a, i);
-                    self.set_counted(d, term, index)?;
-                }
-                Instruction::Subtract { d, a, b } => {
-                    let term =
-                        self.prover.terms.pair(Operation::Difference, self.get(a), self.get(b));
-                    self.set_counted(d, term, index)?;
-                }
-                Instruction::Load { d, a, i } => {
-                    let address = self.with_constant(Operation::Sum, a, i);
-                    self.derive(Goal::Readable(address))?;
-                    let loaded = self.prover.terms.variable(self.prover.variables);
-                    self.prover.variables += 1;
-                    self.set(d, loaded);
-                }
-                Instruction::Store { d: _, a, i } => {
-                    let address = self.with_constant(Operation::Sum, a, i);
-                    self.derive(Goal::Writable(address))?;
-                }
-                Instruction::Jump { target } => return self.jump(target, credit, run + 1),
                 Instruction::JumpIfLess { a, b, target } => {
                     let (a, b) = (self.get(a), self.get(b));
                     let condition = Atom::new(Comparison::Less, a, b);
                     let opposite = Atom::new(Comparison::AtMost, b, a);
-                    self.branch(condition, opposite, target, credit, run + 1)?;
+                    self.branch(condition, opposite, target, credit, run)?;
                 }
                 Instruction::JumpIfEqual { a, b, target } => {
                     let (a, b) = (self.get(a), self.get(b));
                     let condition = Atom::new(Comparison::Equal, a, b);
                     let opposite = Atom::new(Comparison::Unequal, a, b);
-                    self.branch(condition, opposite, target, credit, run + 1)?;
+                    self.branch(condition, opposite, target, credit, run)?;
                 }
-                Instruction::Return => return self.finish(credit, run + 1),
-                Instruction::Mask { d, a, i } => {
-                    let term = self.with_constant(Operation::Mask, a, i);
-                    self.set_counted(d, term, index)?;
-                }
-                Instruction::Shift { d, a, count } => {
-                    let term = self.prover.terms.shift(count, self.get(a));
-                    self.set_counted(d, term, index)?;
-                }
+                Instruction::Return => return self.finish(credit, run),
+                other => self.step(other, index)?,
             }
+            index += 1;
         }
-        unreachable!("a block ends by the end of the code")
+    }
+
+    /// Evaluates an instruction that goes on to the next.
+    fn step(&mut self, instruction: Instruction, index: usize) -> Result<(), Refusal> {
+        match instruction {
+            Instruction::Constant { d, i } => {
+                let term = self.prover.terms.constant(i);
+                self.set(d, term);
+            }
+            Instruction::Add { d, a, b } => {
+                let term = self.prover.terms.pair(Operation::Sum, self.get(a), self.get(b));
+                self.set_counted(d, term, index)?;
+            }
+            Instruction::AddConstant { d, a, i } => {
+                let term = self.with_constant(Operation::Sum, a, i);
+                self.set_counted(d, term, index)?;
+            }
+            Instruction::Subtract { d, a, b } => {
+                let term = self.prover.terms.pair(Operation::Difference, self.get(a), self.get(b));
+                self.set_counted(d, term, index)?;
+            }
+            Instruction::Load { d, a, i } => {
+                let address = self.with_constant(Operation::Sum, a, i);
+                self.derive(Goal::Readable(address))?;
+                let loaded = self.prover.terms.variable(self.prover.variables);
+                self.prover.variables += 1;
+                self.set(d, loaded);
+            }
+            Instruction::Store { d: _, a, i } => {
+                let address = self.with_constant(Operation::Sum, a, i);
+                self.derive(Goal::Writable(address))?;
+            }
+            Instruction::Mask { d, a, i } => {
+                let term = self.with_constant(Operation::Mask, a, i);
+                self.set_counted(d, term, index)?;
+            }
+            Instruction::Shift { d, a, count } => {
+                let term = self.prover.terms.shift(count, self.get(a));
+                self.set_counted(d, term, index)?;
+            }
+            _ => unreachable!("jumps and returns do not go on to the next"),
+        }
+        Ok(())
     }
 
     fn get(&self, register: Register) -> Term {
@@ -166,7 +193,8 @@ impl Evaluation<'_> {
         self.prover.terms.pair(operation, self.get(a), constant)
     }
 
-    /// The taken edge, then on under the opposite condition.
+    /// The taken edge with all that follows from it, then back to the branch under the opposite
+    /// condition.
     fn branch(
         &mut self,
         condition: Atom,
@@ -175,17 +203,16 @@ impl Evaluation<'_> {
         credit: Term,
         run: u32,
     ) -> Result<(), Refusal> {
-        let edge = self.prover.assumptions.len();
+        let (registers, variables) = (self.registers, self.prover.variables);
+        let (terms, edge) = (self.prover.terms.count(), self.prover.assumptions.len());
         self.prover.assumptions.push(condition);
-        self.jump(target, credit, run)?;
-        self.prover.assumptions[edge] = opposite;
+        self.path(target as usize, credit, run)?;
+        self.registers = registers;
+        self.prover.variables = variables;
+        self.prover.terms.forget(terms);
+        self.prover.assumptions.truncate(edge);
+        self.prover.assumptions.push(opposite);
         Ok(())
-    }
-
-    fn jump(&mut self, target: u32, credit: Term, run: u32) -> Result<(), Refusal> {
-        let annotations = self.annotations;
-        let annotation = annotations.at(target as usize).expect("check 12");
-        self.arrive(annotation, credit, run)
     }
 
     /// The goals on arriving at an annotated index with `run` instructions run.

@@ -1,4 +1,4 @@
-//! The loader of document 01, with S-1 to S-4 of document 02, in plain Rust.
+//! The loader of document 01, with S-1 to S-5 of document 02, in plain Rust.
 //!
 //! [`check`] judges a policy and a package, [`run`] executes a package on the machine and
 //! [`find_proof`] finds a package's proof section. The crate is written from these documents

@@ -203,13 +203,14 @@ impl Annotations {
         self.list.get(usize::from(*self.at.get(index)?))
     }
 
-    /// Check 12.
+    /// Check 12: jumps to their own index or a lower one.
     pub fn cover(&self, code: &[Instruction]) -> Result<(), Refusal> {
-        let uncovered = |instruction: &Instruction| {
-            instruction.target().is_some_and(|target| self.at(target as usize).is_none())
+        let uncovered = |&(index, instruction): &(usize, &Instruction)| {
+            let target = instruction.target().map(|target| target as usize);
+            target.is_some_and(|target| target <= index && self.at(target).is_none())
         };
-        match code.iter().position(uncovered) {
-            Some(index) => Err(Refusal::new(12, index)),
+        match code.iter().enumerate().find(uncovered) {
+            Some((index, _)) => Err(Refusal::new(12, index)),
             None => Ok(()),
         }
     }

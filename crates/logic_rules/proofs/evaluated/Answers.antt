@@ -5,19 +5,11 @@ use Rattle.model.specs.Atom.{holds}
 use Rattle.claims.proofs.PlanLaws.{formed_at}
 use Rattle.logic_rules.proofs.evaluated.Goals as goal
 
-pub evaluate-requires : goal.evaluate-requires
-evaluate-requires c = formed_at c.requires.formed (c.in_ok-claimed.ensures.below _ c.requires.claim_below).0
+pub evaluate-requires-clause-first_formed : goal.evaluate-requires-clause-first_formed
+evaluate-requires-clause-first_formed c = formed_at c.requires.formed (c.in_ok-claimed.ensures.below _ c.requires.claim_below).0
 
-pub evaluate-requires-2 : goal.evaluate-requires-2
-evaluate-requires-2 c = formed_at c.requires.formed (c.in_ok-claimed.ensures.below _ c.requires.claim_below).1
-
-pub returns-in_err-a : goal.returns-in_err-a
-unfolding premises
-returns-in_err-a c = grind (arith, steps)
-
-pub returns-in_err-b : goal.returns-in_err-b
-unfolding premises
-returns-in_err-b c = grind (arith, steps)
+pub evaluate-requires-clause-second_formed : goal.evaluate-requires-clause-second_formed
+evaluate-requires-clause-second_formed c = formed_at c.requires.formed (c.in_ok-claimed.ensures.below _ c.requires.claim_below).1
 
 pub returns : goal.returns
 unfolding premises holds

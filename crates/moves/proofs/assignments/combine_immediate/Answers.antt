@@ -3,4 +3,4 @@ use Rattle.moves.proofs.Assigning.{built_assigns}
 use Rattle.moves.proofs.assignments.combine_immediate.Goals as goal
 
 pub returns : goal.returns
-returns c = built_assigns c.requires.room_for c.put_with.auto.ws c.requires.registers.0 (omega arith) c.put_with.ensures c.raised.ensures c.assign.ensures
+returns c = built_assigns c.requires.room_for c.keep_with.auto.ws c.requires.registers.0 (omega arith) c.keep_with.ensures c.raised.ensures c.assign.ensures

@@ -1,0 +1,5 @@
+use Rattle.terms.proofs.NewNodes.{put_kept}
+use Rattle.terms.proofs.keep_pair.Goals as goal
+
+pub returns : goal.returns
+returns c = put_kept c.put_pair.ensures c.keep.ensures
