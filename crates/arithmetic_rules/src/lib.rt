@@ -38,7 +38,9 @@ pub fn congruent(ws: &[u32], claim: Claim, plan: &mut Plan) -> Result<(), Misfit
     }
 }
 
-// Rules 12 and 28: a = b, a ≠ b, when the linear forms have a difference, and it is zero, or it is not.
+// Rules 12 and 28: a = b, a ≠ b, when the linear forms have a difference, and it is zero, or it is not. Inlined where it is called twice: a claim that
+// is passed to a function in memory is kept there for all rules.
+#[inline(always)]
 pub fn apart(
     ws: &mut [u32],
     variables: usize,

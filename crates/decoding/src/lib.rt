@@ -28,7 +28,9 @@ fn provided(fields: bool, instruction: Instruction) -> Result<Instruction, Misfi
     if fields { Ok(instruction) } else { Err(Misfit) }
 }
 
-// The instruction of an operation word's four bytes and an immediate.
+// The instruction of an operation word's four bytes and an immediate. Inlined where it is called, as is what reads it from a package: handed back
+// through memory it would be written byte by byte and read as a word, and the processor would wait for that.
+#[inline(always)]
 pub fn decode(op: u8, d: u8, a: u8, b: u8, i: u32) -> Result<Instruction, Misfit>
     ensures { result ≡ decode op d a b i }
 {

@@ -12,7 +12,7 @@ use claims::{Claim, Goal, Plan, Rule, Scope};
 use limits::MOST_LEVELS;
 use logic_rules::{exchanged, through, weakened};
 use model::{Comparison, Misfit, Refusal, Region, Right};
-use nodes::Operation;
+use nodes::{Atom, Operation};
 
 // What goals are derived by: the bytes of the package, in which the proof stands, and the policy's regions.
 #[derive(Clone, Copy)]
@@ -123,7 +123,8 @@ pub fn derive(
     let above = plan.top;
     let mut reached = next;
     for premise in plan.premises() {
-        let due = Claim::Atom(*premise);
+        let Atom { kind, left, right } = *premise;
+        let due = Claim::Atom(Atom { kind, left, right });
         reached = derive(grounds, scope, ws, levels - 1, above, due, reached)?;
     }
     Ok(reached)

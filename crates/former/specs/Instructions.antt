@@ -1,4 +1,4 @@
--- What checker, runner and finder answer where n is at most 256, as it was before S-4; and what S-4 says of those answers. Assumes nothing.
+-- What checker, runner and finder answer where check 7 takes n up to 256, as it did before S-4; and what S-4 says of those answers. Assumes nothing.
 use Rattle.std.specs.Prelude.{◌≡◌, ℕ, ◌&&◌, Bool, true, false, List, [], length, min, drop, leb, eqb}
 use Rattle.model.specs.Result.{Result, Err, Ok, ◌>>=◌, check}
 use Rattle.model.specs.Refusal.{number_of, place_of}

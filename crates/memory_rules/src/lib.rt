@@ -13,7 +13,8 @@ use model::{Comparison, Misfit, Region, Right};
 use nodes::Atom;
 
 // Rules 22 and 23: readable(t), writable(t), from base ≤ t, t < base plus length, region j giving the right to each of its words.
-// Two new nodes.
+// Two new nodes. Inlined for the reason at rules 12 and 28.
+#[inline(always)]
 pub fn in_region(
     regions: &[Region],
     ws: &mut [u32],

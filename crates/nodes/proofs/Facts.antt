@@ -2,7 +2,7 @@
 use mathlib.Core.Path.{◌≡◌, refl, sym, ◌∙◌}
 use mathlib.Core.Bool.{Bool, true, false, ◌&&◌}
 use mathlib.Core.List.{List}
-use Prim.Native.Nat.{ℕ, suc, ◌+◌, ◌/◌, ◌%◌, ◌<◌}
+use Prim.Native.Nat.{ℕ, zero, suc, ◌+◌, ◌*◌, ◌/◌, ◌%◌, ◌<◌}
 use native.Mathlib.Omega.{arith}
 use native.Mathlib.Decide.{dec_lt}
 use lib.Dec.{eqb, leb}
@@ -26,6 +26,16 @@ tag_bound (shift count s) = omega arith
 pub bit_bound : (b : Bool) → from_bool b < 2
 bit_bound true = omega arith
 bit_bound false = omega arith
+
+pub bit_both : (a b : Bool) → from_bool (a && b) ≡ from_bool a * from_bool b
+bit_both true true = refl
+bit_both true false = refl
+bit_both false b = omega arith
+
+pub bits_product : (x y : ℕ) → x < 2 → y < 2 → x * y < 2
+bits_product zero y h k = omega arith
+bits_product (suc zero) y h k = omega arith
+bits_product (suc (suc x)) y h k = absurd (omega arith)
 
 bit_is : (b : Bool) → eqb (from_bool b) 1 ≡ b
 bit_is true = refl

@@ -38,11 +38,12 @@ pub enum Node {
     Shift(u32, usize),
 }
 
-// A comparison of two nodes, as an atom of their terms.
+// A comparison of two nodes, as an atom of their terms. The kind stands between the sides: if they lay side by side they would be copied as one,
+// just after each was written by itself, and the processor would wait for both.
 #[derive(Clone, Copy)]
 pub struct Atom {
-    pub kind: Comparison,
     pub left: usize,
+    pub kind: Comparison,
     pub right: usize,
 }
 

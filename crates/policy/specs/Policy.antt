@@ -1,6 +1,7 @@
 -- What reading a policy owes. Assumes nothing.
 use Rattle.std.specs.Prelude.{ℕ, ◌+◌, ◌≤◌, ◌≡◌, List, length, All}
-use Rattle.model.specs.Result.{Result, map_ok}
+use Rattle.std.proofs.Math.Path.{sym}
+use Rattle.model.specs.Result.{Result, Ok, Err, map_ok}
 use Rattle.model.specs.Atom.{most_atoms}
 use Rattle.model.specs.Policy as model
 use Rattle.model.specs.declared.Refusal.{Refusal}
@@ -38,3 +39,13 @@ module _ (bytes : List ℕ) where
     pub postcondition_read : Stands bytes p.postcondition (length bytes)
     pub whole : length (listed p.regions) ≡ p.regions.count
     pub fits : All (λ r. r.base + r.size ≤ p.memory) (listed p.regions)
+
+  -- What a caller learns from each answer.
+  module _ {r : Result Policy Refusal} (answer : policy_result r ≡ model.read_policy bytes) where
+    pub policy_passed : {p : Policy} → r ≡ Ok p → model.read_policy bytes ≡ Ok (policy_of p)
+    unfolding policy_result
+    policy_passed e = sym (rw e at answer)
+
+    pub policy_refused : {x : Refusal} → r ≡ Err x → model.read_policy bytes ≡ Err x
+    unfolding policy_result
+    policy_refused e = sym (rw e at answer)

@@ -9,6 +9,7 @@ use header::package::Package;
 use model::{Instruction, Refusal};
 
 // The instruction at an index, or what check 8 or 9 refuses there.
+#[inline(always)]
 pub fn instruction(routine: &Package, index: usize) -> Result<Instruction, Refusal>
     requires { index < routine.now.header.instructions }
     ensures is { result ≡ instruction_at routine.now.bytes.now routine.now.header index }
@@ -40,7 +41,8 @@ pub fn check_code(routine: &Package) -> Result<(), Refusal>
 pub const BLANK: Instruction = Instruction::Set { d: 0, i: 0 };
 
 // The instructions of a package, which then stand at the start of the lines, or what check 8 or 9 refuses. Each is formed for a code of their
-// number. There are lines enough.
+// number. There are lines enough. It is a function of its own beside the run, which takes longer when it is laid out together with the decoding.
+#[inline(never)]
 pub fn read_code<'a>(
     routine: &Package,
     lines: &'a mut [Instruction],

@@ -22,10 +22,7 @@ impl<'a> Writer<'a> {
     pub(crate) fn byte(&mut self, x: u8)
         ensures { Same self.old.out self.new.out }
     {
-        if self.at < self.out.len() {
-            self.out[self.at] = x;
-            self.at += 1;
-        }
+        self.at = crate::byte(self.out, self.at, x);
     }
 
     // Two bytes, low byte first.

@@ -110,6 +110,33 @@ fn large(ws: &[u32], i: usize, j: usize) -> Values
     Values { left, right }
 }
 
+// The value of node i's term, every variable being 0, walked as a tree; none, if it has more nodes without a value than are left.
+fn walked(ws: &[u32], i: usize, left: &mut usize) -> Option<u32>
+    requires { Formed ws.now (suc i) }
+    ensures { IfSome result (λ x. x ≡ eval (λ v. 0) (term_at ws.now i)) }
+{
+    if let Some(value) = held(ws, i) {
+        return Some(value);
+    }
+    if *left == 0 {
+        return None;
+    }
+    *left -= 1;
+    match nodes::view(ws, i) {
+        Node::Constant(value) => Some(value),
+        Node::Variable(_) => Some(0),
+        Node::Pair(operation, first, second) => {
+            let a = walked(ws, first, left)?;
+            let b = walked(ws, second, left)?;
+            Some(terms::applied(operation, a, b))
+        }
+        Node::Shift(count, part) => {
+            let a = walked(ws, part, left)?;
+            Some(fields::shift(a, count))
+        }
+    }
+}
+
 // Whether node i holds its term's value, or the term is small.
 fn easy(ws: &[u32], i: usize) -> bool
     requires { Formed ws.now (suc i) }
@@ -117,19 +144,26 @@ fn easy(ws: &[u32], i: usize) -> bool
     nodes::holds_value(ws, i) | nodes::small(ws, i)
 }
 
-// The values of two nodes' terms, every variable being 0. Small terms are walked as trees.
+// The most nodes without a value in two small terms, and so many in others that to walk them takes less than to make places for all nodes.
+const SMALL: usize = 510;
+
+const FEW: usize = 16;
+
+// The values of two nodes' terms, every variable being 0: walked as trees, if that takes few nodes.
 #[inline(never)]
 fn both(ws: &[u32], i: usize, j: usize) -> Values
     requires first_formed { Formed ws.now (suc i) }
     requires second_formed { Formed ws.now (suc j) }
     ensures { result ≡ values_of (term_at ws.now i) (term_at ws.now j) }
 {
-    if !(easy(ws, i) & easy(ws, j)) {
-        return large(ws, i, j);
+    let easy = easy(ws, i) & easy(ws, j);
+    let mut few = if easy { SMALL } else { FEW };
+    if let Some(left) = walked(ws, i, &mut few)
+        && let Some(right) = walked(ws, j, &mut few)
+    {
+        return Values { left, right };
     }
-    let left = reduced(ws, i, &mut []);
-    let right = reduced(ws, j, &mut []);
-    Values { left, right }
+    large(ws, i, j)
 }
 
 // The values of two nodes' terms, where neither has a variable.
