@@ -123,6 +123,7 @@ pub fn derive(
     let above = plan.top;
     let mut reached = next;
     for premise in plan.premises() {
+        // taken apart for the reason at `nodes::Atom`
         let Atom { kind, left, right } = *premise;
         let due = Claim::Atom(Atom { kind, left, right });
         reached = derive(grounds, scope, ws, levels - 1, above, due, reached)?;

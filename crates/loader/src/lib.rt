@@ -1,4 +1,4 @@
-// The loader's public face. A package whose n is not 257 to 512 has the answers that it has where n is at most 256 (clauses `former`).
+// The loader's public face. The answers to a package whose n is not 257 to 512 are those with the former limit (clauses `former`).
 #![tactic(auto)]
 
 ghost use Rattle.std.specs.Prelude.{◌≡◌, ◌+◌, ℕ, false, length};

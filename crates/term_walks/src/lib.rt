@@ -144,9 +144,10 @@ fn easy(ws: &[u32], i: usize) -> bool
     nodes::holds_value(ws, i) | nodes::small(ws, i)
 }
 
-// The most nodes without a value in two small terms, and so many in others that to walk them takes less than to make places for all nodes.
+// The most nodes without a value in two small terms.
 const SMALL: usize = 510;
 
+// So many nodes of other terms are walked first: that takes less than to make places for all nodes.
 const FEW: usize = 16;
 
 // The values of two nodes' terms, every variable being 0: walked as trees, if that takes few nodes.
