@@ -2,7 +2,7 @@
 // write at a position, and answer the position after what they wrote.
 #![tactic(auto)]
 
-ghost use Rattle.std.specs.Prelude.{◌≡◌, ◌≤◌, ◌<◌, ◌+◌, ◌/◌, ◌%◌, length, set};
+ghost use Rattle.std.specs.Prelude.{◌≡◌, ℕ, ◌≤◌, ◌<◌, ◌+◌, ◌/◌, ◌%◌, max, min, length, get_or, set};
 
 mod longest;
 pub mod packages;
@@ -12,8 +12,7 @@ mod writing;
 // One byte.
 pub fn byte(out: &mut [u8], at: usize, x: u8) -> usize
     ensures written { out.new ≡ set out.old at x }
-    ensures next { at < length out.old → result ≡ at + 1 }
-    ensures dropped { length out.old ≤ at → result ≡ at }
+    ensures next { result ≡ max at (min (at + 1) (length out.old)) }
 {
     if at < out.len() {
         out[at] = x;
@@ -26,7 +25,7 @@ pub fn byte(out: &mut [u8], at: usize, x: u8) -> usize
 // Two bytes, low byte first.
 pub fn half(out: &mut [u8], at: usize, x: u32) -> usize
     ensures written { out.new ≡ set (set out.old at (x % 256)) (at + 1) (x / 256 % 256) }
-    ensures next { at + 2 ≤ length out.old → result ≡ at + 2 }
+    ensures next { result ≡ max at (min (at + 2) (length out.old)) }
 {
     let at = byte(out, at, (x % 256) as u8);
     byte(out, at, (x / 256 % 256) as u8)
@@ -34,8 +33,8 @@ pub fn half(out: &mut [u8], at: usize, x: u32) -> usize
 
 // Four bytes, low byte first.
 pub fn word(out: &mut [u8], at: usize, x: u32) -> usize
-    ensures written { at + 4 ≤ length out.old → out.new ≡ set (set (set (set out.old at (x % 256)) (at + 1) (x / 256 % 256)) (at + 2) (x / 65536 % 256)) (at + 3) (x / 65536 / 256 % 256) }
-    ensures next { at + 4 ≤ length out.old → result ≡ at + 4 }
+    ensures written { out.new ≡ set (set (set (set out.old at (x % 256)) (at + 1) (x / 256 % 256)) (at + 2) (x / 65536 % 256)) (at + 3) (x / 65536 / 256 % 256) }
+    ensures next { result ≡ max at (min (at + 4) (length out.old)) }
 {
     let at = half(out, at, x % 65536);
     half(out, at, x / 65536)
@@ -43,7 +42,10 @@ pub fn word(out: &mut [u8], at: usize, x: u32) -> usize
 
 // The same byte so many times.
 pub fn repeat(out: &mut [u8], at: usize, x: u8, times: u32) -> usize
-    ensures next { at + times ≤ length out.old → result ≡ at + times }
+    ensures written { (i : ℕ) → at ≤ i → i < at + times → i < length out.old → get_or out.new i 0 ≡ x }
+    ensures before { (i : ℕ) → i < at → get_or out.new i 0 ≡ get_or out.old i 0 }
+    ensures after { (i : ℕ) → at + times ≤ i → get_or out.new i 0 ≡ get_or out.old i 0 }
+    ensures next { result ≡ max at (min (at + times) (length out.old)) }
 {
     let mut next = at;
     for _ in 0..times {
